@@ -1,0 +1,6 @@
+mod Forms
+mod OneFile
+mod Faults
+mod InOrder
+mod OneForm
+mod Beginnings
