@@ -4,3 +4,4 @@ mod Faults
 mod InOrder
 mod OneForm
 mod Beginnings
+mod Written

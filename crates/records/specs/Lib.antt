@@ -1,3 +1,4 @@
 pub mod Record
 pub mod Refusal
 pub mod Reading
+pub mod Writing

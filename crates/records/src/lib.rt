@@ -4,3 +4,4 @@ pub mod place;
 pub mod reading;
 pub mod record;
 pub mod refusal;
+pub mod writing;
