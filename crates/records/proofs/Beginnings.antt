@@ -9,7 +9,7 @@ use Rattle.records.specs.declared.doing.Doing.{Doing}
 use Rattle.records.specs.declared.place.Place.{Place}
 use Rattle.records.specs.Record.{Record, RecordFits, DoingFits, DoingsFit, headBytes, doingBytes, doingsBytes, recordBytes}
 use Rattle.records.specs.Refusal.{Earlier, FirstPlace, Read, ReadFrom, Begun, FileFault, FormFault}
-use Rattle.records.specs.Reading.{ReadAs, NoRecords, beginning}
+use Rattle.records.specs.Reading.{ReadAs, NoRecords, beginning, BeginAlike}
 use Rattle.records.proofs.Forms.{long, bytes-more, fit-more}
 use Rattle.records.proofs.Faults.{no-next}
 use Rattle.records.proofs.OneForm.{read-as, no-records}
@@ -75,7 +75,7 @@ same-file f g same le =
 record-short : (i : ℕ) (r : Record) → RecordFits r → length (recordBytes i r) ≤ 5009
 record-short i r fits = omega (arith, fits .1, long (r .doings))
 
-read-alike : {k : ℕ} {fs : List (List ℕ)} {rs : List Record} → ReadFrom k fs rs → (gs : List (List ℕ)) → map beginning fs ≡ map beginning gs → ReadFrom k gs rs
+read-alike : {k : ℕ} {fs : List (List ℕ)} {rs : List Record} → ReadFrom k fs rs → (gs : List (List ℕ)) → BeginAlike fs gs → ReadFrom k gs rs
 read-alike ReadFrom.end [] same = ReadFrom.end
 read-alike ReadFrom.end (g ∷ gs) same = absurd (let z : _≡_ {A = ℕ} 0 1 = cc in omega arith)
 read-alike (ReadFrom.more r fits rest) [] same = absurd (let z : _≡_ {A = ℕ} 0 1 = cc in omega arith)
@@ -85,7 +85,7 @@ read-alike {k} (ReadFrom.more {files = fs} {rs = rs} r fits rest) (g ∷ gs) sam
     let P : List ℕ → Type 0 = λ x. ReadFrom k (x ∷ gs) (r ∷ rs) in
     subst P (same-file (recordBytes k r) g first (record-short k r fits)) (ReadFrom.more r fits (read-alike rest gs others))
 
-module _ (fs gs : List (List ℕ)) (same : map beginning fs ≡ map beginning gs) where
+module _ (fs gs : List (List ℕ)) (same : BeginAlike fs gs) where
   as-long : length fs ≡ length gs
   as-long = sym (length-map fs beginning) ∙ ap length same ∙ length-map gs beginning
 
@@ -100,8 +100,8 @@ module _ (fs gs : List (List ℕ)) (same : map beginning fs ≡ map beginning gs
   all-alike : (rs : List Record) → Read fs rs → Read gs rs
   all-alike rs h = (omega (arith, as-long, h .0), omega (arith, as-long, h .1), read-alike (h .2) gs same)
 
-pub first-alike : (fs gs : List (List ℕ)) (p : Place) → map beginning gs ≡ map beginning fs → FirstPlace (FormFault fs) p → NoRecords gs p
+pub first-alike : (fs gs : List (List ℕ)) (p : Place) → BeginAlike gs fs → FirstPlace (FormFault fs) p → NoRecords gs p
 first-alike fs gs p same h = no-records gs p (form-alike fs gs (sym same) (h .0), λ q before fault. h .1 q before (form-alike gs fs same fault))
 
-pub records-alike : (fs gs : List (List ℕ)) (rs : List Record) → map beginning gs ≡ map beginning fs → Read fs rs → ReadAs gs rs
+pub records-alike : (fs gs : List (List ℕ)) (rs : List Record) → BeginAlike gs fs → Read fs rs → ReadAs gs rs
 records-alike fs gs rs same h = read-as gs rs (all-alike fs gs (sym same) rs h)

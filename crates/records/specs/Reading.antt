@@ -80,3 +80,6 @@ FilesRead fs (files.Fault p) = NoRecords fs p
 -- as much of a file as tells all about it: one byte more than the longest record has
 abbrev pub beginning : List ℕ → List ℕ
 beginning file = take 5010 file
+
+abbrev pub BeginAlike : (fs gs : List (List ℕ)) → Type 0
+BeginAlike fs gs = map beginning fs ≡ map beginning gs

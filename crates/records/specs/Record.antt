@@ -87,6 +87,11 @@ machineOf rs i = getD rs i none
 abbrev pub didOf : List Record → ℕ → ℕ
 didOf rs i = length (machineOf rs i .doings)
 
+-- how many doings there are in all
+abbrev pub doingsIn : List Record → ℕ
+doingsIn [] = 0
+doingsIn (r ∷ rs) = length (r .doings) + doingsIn rs
+
 -- the kind of doing m of machine i, m from 1; `Neither` where there is no such doing
 abbrev pub kindIn : List Doing → ℕ → Kind
 kindIn [] m = Neither

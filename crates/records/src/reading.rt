@@ -1,10 +1,9 @@
 // Records read from bytes.
-ghost use mathlib.Core.List.{List, map};
-ghost use mathlib.Core.Path.{_≡_};
+ghost use mathlib.Core.List.{List};
 ghost use Prim.Native.Nat.{ℕ};
 ghost use Rattle.std.specs.Options.{Cases as BySome};
 ghost use Rattle.std.specs.Vec.{made};
-ghost use Rattle.records.specs.Reading.{IsKind, NoKind, IsDoing, NoDoing, IsHead, NoHead, DoingsRead, RecordRead, FilesRead, filesOf, beginning};
+ghost use Rattle.records.specs.Reading.{IsKind, NoKind, IsDoing, NoDoing, IsHead, NoHead, DoingsRead, RecordRead, FilesRead, filesOf, BeginAlike};
 use crate::doing::Doing;
 use crate::doing::Kind;
 use crate::place::Place;
@@ -130,7 +129,7 @@ fn read_record(heap: Global, bytes: &[u8], machine: u8) -> Result<Reading, Alloc
 // The records that the files are, in order of machines from 0. Of a long file its telling beginning is enough: the promise
 // is for all files that begin so.
 pub fn read_files(heap: Global, files: &[Vec<u8>]) -> Result<Files, AllocError>
-    ensures { λ r. ⌜ made r (λ x. (whole : List (List ℕ)) → map beginning whole ≡ map beginning (filesOf (now (files .entry))) → FilesRead whole x) ⌝ }
+    ensures { λ r. ⌜ made r (λ x. (whole : List (List ℕ)) → BeginAlike whole (filesOf (now (files .entry))) → FilesRead whole x) ⌝ }
 {
     if files.is_empty() {
         return Ok(Files::Fault(Place {

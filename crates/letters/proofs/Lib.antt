@@ -1,0 +1,4 @@
+mod Machines
+mod Seeing
+mod InOrder
+mod Linking

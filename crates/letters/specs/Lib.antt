@@ -1,0 +1,4 @@
+pub mod Seen
+pub mod Noting
+pub mod Matching
+pub mod Recorded

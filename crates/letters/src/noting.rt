@@ -1,0 +1,96 @@
+// Who sent and who got each letter, noted doing by doing.
+ghost use lib.ListN.{length};
+ghost use mathlib.Core.Path.{_≡_};
+ghost use Prim.Native.Nat.{_≤_, _<_};
+ghost use Rattle.std.specs.Vec.{made};
+ghost use Rattle.records.specs.declared.doing.Kind.the-variants.{Sends};
+ghost use Rattle.records.specs.Record.{recordsOf};
+ghost use Rattle.letters.specs.Seen.{seenAt, Nothing, Put};
+ghost use Rattle.letters.specs.Noting.{Few, MachineNoted, AllNoted};
+use crate::seen::Seen;
+use records::doing::Doing;
+use records::doing::Kind;
+use records::place::Place;
+use records::record::Record;
+use std::alloc::AllocError;
+use std::alloc::Global;
+use std::collections::BTreeMap;
+
+// What noting all doings comes to: who sent and got what, or the first doing that does again what an earlier one did.
+#[derive(Drop)]
+pub(crate) enum Noting {
+    All(Seen),
+    Again(Place),
+}
+
+impl Seen {
+    pub(crate) fn new(heap: Global) -> Seen
+        ensures { λ r. ⌜ Nothing r ⌝ }
+    {
+        Seen {
+            sent: BTreeMap::new(heap),
+            got: BTreeMap::new(heap),
+        }
+    }
+
+    // Notes the doing at this place, and says whether an earlier one did the same with the letter.
+    pub(crate) fn put(&mut self, kind: Kind, place: Place) -> Result<bool, AllocError>
+        ensures { λ r. ⌜ made r (Put (now (self .entry)) (now (self .exit)) kind place) ⌝ }
+    {
+        match kind {
+            Kind::Neither => Ok(false),
+            Kind::Sends(letter) => {
+                let sender = self.sent.insert(letter, place)?;
+                Ok(sender.is_some())
+            }
+            Kind::Gets(letter) => {
+                let getter = self.got.insert(letter, place)?;
+                Ok(getter.is_some())
+            }
+        }
+    }
+
+    // The doing that sent this letter.
+    pub(crate) fn sender(&self, letter: u32) -> Option<Place>
+        ensures { λ r. ⌜ r ≡ seenAt (now (self .entry)) (Sends letter) ⌝ }
+    {
+        self.sent.get(&letter).copied()
+    }
+}
+
+// Notes one machine's doings, up to the first that does again what an earlier one did.
+fn note_machine(
+    seen: &mut Seen,
+    machine: u8,
+    doings: &[Doing],
+) -> Result<Option<Place>, AllocError>
+    requires short { ⌜ length (now doings) ≤ 500 ⌝ }
+    ensures { λ r. ⌜ made r (MachineNoted machine (now (doings .entry)) (now (seen .entry)) (now (seen .exit))) ⌝ }
+{
+    for k in 0..doings.len() {
+        let here = Place {
+            machine,
+            doing: (k + 1) as u16,
+        };
+        let again = seen.put(doings[k].kind, here)?;
+        if again {
+            return Ok(Some(here));
+        }
+    }
+    Ok(None)
+}
+
+// Notes all doings, by machine, then doing.
+pub(crate) fn note_all(heap: Global, records: &[Record]) -> Result<Noting, AllocError>
+    requires few { ⌜ Few (recordsOf (now records)) ⌝ }
+    ensures { λ r. ⌜ made r (AllNoted (recordsOf (now (records .entry)))) ⌝ }
+{
+    let mut seen = Seen::new(heap);
+    for i in 0..records.len() {
+        let again = note_machine(&mut seen, i as u8, &records[i].doings)?;
+        if let Some(place) = again {
+            return Ok(Noting::Again(place));
+        }
+    }
+    Ok(Noting::All(seen))
+}
