@@ -1,12 +1,12 @@
 // `ask QUESTION ANSWER RECORD..`: what can be known from machines' records.
-use files::read_beginning;
-use files::write_whole;
+use cli::read_beginning;
+use cli::words;
+use cli::write_whole;
 use letters::matched::Matched;
 use letters::recorded::Recorded;
 use letters::recorded::read_recorded;
 use records::reading::TELLING;
 use records::refusal::Refusal;
-use std::env;
 use std::error::AnyError;
 
 const USAGE: &str = "usage: ask QUESTION ANSWER RECORD..
@@ -21,14 +21,6 @@ enum End {
     Refused,
     Undecided,
     Failed,
-}
-
-fn words(rt: &LibcRuntime) -> Result<Vec<String>, AnyError> {
-    let mut words = Vec::new(rt.alloc());
-    for word in env::args(rt)?.skip(1) {
-        words.push(word)?;
-    }
-    Ok(words)
 }
 
 fn is_question(word: &str) -> bool {
@@ -56,10 +48,22 @@ fn tell_refusal(rt: &LibcRuntime, refusal: Refusal) -> Result<(), AnyError> {
     let doing = refusal.place().doing;
     println!(rt, "refused {number} at {machine} {doing}")?;
     match refusal {
-        Refusal::Form(_) if doing == 0 => println!(rt, "Machine {machine} has no record in form: what stands before its first doing is wrong or missing, or there is no file, or a file too many.")?,
-        Refusal::Form(_) => println!(rt, "The record of machine {machine} is not in form: its doing {doing} is wrong or missing, or bytes follow its last.")?,
-        Refusal::Again(_) => println!(rt, "Doing {doing} of machine {machine} sends a letter that was sent already, or gets one that was got already.")?,
-        Refusal::Unsent(_) => println!(rt, "Doing {doing} of machine {machine} gets a letter that nobody sent.")?,
+        Refusal::Form(_) if doing == 0 => println!(
+            rt,
+            "Machine {machine} has no record in form: what stands before its first doing is wrong or missing, or there is no file, or a file too many."
+        )?,
+        Refusal::Form(_) => println!(
+            rt,
+            "The record of machine {machine} is not in form: its doing {doing} is wrong or missing, or bytes follow its last."
+        )?,
+        Refusal::Again(_) => println!(
+            rt,
+            "Doing {doing} of machine {machine} sends a letter that was sent already, or gets one that was got already."
+        )?,
+        Refusal::Unsent(_) => println!(
+            rt,
+            "Doing {doing} of machine {machine} gets a letter that nobody sent."
+        )?,
     }
     Ok(())
 }
@@ -79,7 +83,10 @@ fn tell_undecided(rt: &LibcRuntime, question: &str, run: &Matched) -> Result<End
     let letters = run.letters.len();
     println!(rt, "{question} undecided")?;
     println!(rt, "machines {machines} doings {doings} letters {letters}")?;
-    println!(rt, "The records are in form, and each letter that was got was sent. This version does not decide questions yet; no answer was written.")?;
+    println!(
+        rt,
+        "The records are in form, and each letter that was got was sent. This version does not decide questions yet; no answer was written."
+    )?;
     Ok(End::Undecided)
 }
 

@@ -42,7 +42,10 @@ fn match_machine(
         };
         let got = (k + 1) as u16;
         let Some(sender) = seen.sender(letter) else {
-            return Ok(Some(Place { machine, doing: got }));
+            return Ok(Some(Place {
+                machine,
+                doing: got,
+            }));
         };
         letters.push(Letter {
             from: sender.machine,

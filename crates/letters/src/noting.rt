@@ -5,7 +5,10 @@ ghost use Prim.Native.Nat.{_≤_, _<_};
 ghost use Rattle.std.specs.Vec.{made};
 ghost use Rattle.records.specs.declared.doing.Kind.the-variants.{Sends};
 ghost use Rattle.records.specs.Record.{recordsOf};
-ghost use Rattle.letters.specs.Seen.{seenAt, Nothing, Put};
+ghost use Rattle.std.specs.BTreeMap.{at};
+ghost use Rattle.std.specs.Keys.{unsigned};
+ghost use Rattle.std.specs.shelf.Lawful.{TreeLawful};
+ghost use Rattle.letters.specs.Seen.{NotedIn, seenAt, Nothing, Put};
 ghost use Rattle.letters.specs.Noting.{Few, MachineNoted, AllNoted};
 use crate::seen::Seen;
 use records::doing::Doing;
@@ -23,8 +26,26 @@ pub(crate) enum Noting {
     Again(Place),
 }
 
+// Notes the doing that did something with a letter, and says whether one was noted already.
+fn note(map: &mut BTreeMap<u32, Place>, letter: u32, place: Place) -> Result<bool, AllocError>
+    requires { ⌜ TreeLawful unsigned (now map) ⌝ }
+    ensures lawful { λ _. ⌜ TreeLawful unsigned (now (map .exit)) ⌝ }
+    ensures notes { λ r. ⌜ made r (NotedIn (now (map .entry)) (now (map .exit)) letter place) ⌝ }
+{
+    let earlier = map.insert(letter, place)?;
+    Ok(earlier.is_some())
+}
+
+// The doing that is noted for a letter.
+fn noted(map: &BTreeMap<u32, Place>, letter: u32) -> Option<Place>
+    requires { ⌜ TreeLawful unsigned (now map) ⌝ }
+    ensures { λ r. ⌜ r ≡ at unsigned (now (map .entry)) letter ⌝ }
+{
+    map.get(&letter).copied()
+}
+
 impl Seen {
-    pub(crate) fn new(heap: Global) -> Seen
+    fn new(heap: Global) -> Seen
         ensures { λ r. ⌜ Nothing r ⌝ }
     {
         Seen {
@@ -34,19 +55,13 @@ impl Seen {
     }
 
     // Notes the doing at this place, and says whether an earlier one did the same with the letter.
-    pub(crate) fn put(&mut self, kind: Kind, place: Place) -> Result<bool, AllocError>
+    fn put(&mut self, kind: Kind, place: Place) -> Result<bool, AllocError>
         ensures { λ r. ⌜ made r (Put (now (self .entry)) (now (self .exit)) kind place) ⌝ }
     {
         match kind {
             Kind::Neither => Ok(false),
-            Kind::Sends(letter) => {
-                let sender = self.sent.insert(letter, place)?;
-                Ok(sender.is_some())
-            }
-            Kind::Gets(letter) => {
-                let getter = self.got.insert(letter, place)?;
-                Ok(getter.is_some())
-            }
+            Kind::Sends(letter) => note(&mut self.sent, letter, place),
+            Kind::Gets(letter) => note(&mut self.got, letter, place),
         }
     }
 
@@ -54,16 +69,12 @@ impl Seen {
     pub(crate) fn sender(&self, letter: u32) -> Option<Place>
         ensures { λ r. ⌜ r ≡ seenAt (now (self .entry)) (Sends letter) ⌝ }
     {
-        self.sent.get(&letter).copied()
+        noted(&self.sent, letter)
     }
 }
 
 // Notes one machine's doings, up to the first that does again what an earlier one did.
-fn note_machine(
-    seen: &mut Seen,
-    machine: u8,
-    doings: &[Doing],
-) -> Result<Option<Place>, AllocError>
+fn note_machine(seen: &mut Seen, machine: u8, doings: &[Doing]) -> Result<Option<Place>, AllocError>
     requires short { ⌜ length (now doings) ≤ 500 ⌝ }
     ensures { λ r. ⌜ made r (MachineNoted machine (now (doings .entry)) (now (seen .entry)) (now (seen .exit))) ⌝ }
 {

@@ -59,9 +59,9 @@ fault-alike i f g same (FileFault.head none) = FileFault.head (λ count rest b. 
 fault-alike i f g same (FileFault.doing {count = count} {ds = ds} {rest = rest} b lt last) =
     let h = begun-alike i f g same [] rest b (omega (arith, b .few)) in
     FileFault.doing (h .1) lt (λ d after fits e.
-      let P : List ℕ → Type 0 = λ x. Begun i g count ds x in
-      let back = begun-alike i g f (sym same) (doingBytes d) after (subst P e (h .1)) (omega (arith, b .few)) in
-      no-next i f b (begun-more i f d (back .0) (back .1) lt fits) (omega (arith, length-append ds (d ∷ []))) last)
+    let P : List ℕ → Type 0 = λ x. Begun i g count ds x in
+    let back = begun-alike i g f (sym same) (doingBytes d) after (subst P e (h .1)) (omega (arith, b .few)) in
+    no-next i f b (begun-more i f d (back .0) (back .1) lt fits) (omega (arith, length-append ds (d ∷ []))) last)
 fault-alike i f g same (FileFault.tooLong {count = count} {ds = ds} {b = x} {rest = rest} b e) =
     let h = begun-alike i f g same (x ∷ []) rest b (omega (arith, b .few)) in FileFault.tooLong (h .1) e
 

@@ -58,7 +58,18 @@ fn doing_bytes(doing: Doing) -> [u8; 10]
 {
     let l = letter(doing.kind).to_be_bytes();
     let a = doing.amount.to_be_bytes();
-    [code(doing.kind), l[0], l[1], l[2], l[3], doing.sign as u8, a[0], a[1], a[2], a[3]]
+    [
+        code(doing.kind),
+        l[0],
+        l[1],
+        l[2],
+        l[3],
+        doing.sign as u8,
+        a[0],
+        a[1],
+        a[2],
+        a[3],
+    ]
 }
 
 fn head_bytes(head: Head, machine: u8) -> [u8; 9]
@@ -66,7 +77,17 @@ fn head_bytes(head: Head, machine: u8) -> [u8; 9]
 {
     let a = head.amount.to_be_bytes();
     let c = head.count.to_be_bytes();
-    [82, machine, head.sign as u8, a[0], a[1], a[2], a[3], c[0], c[1]]
+    [
+        82,
+        machine,
+        head.sign as u8,
+        a[0],
+        a[1],
+        a[2],
+        a[3],
+        c[0],
+        c[1],
+    ]
 }
 
 // Puts the doings' bytes behind what is there, up to the first that is beyond the limits.

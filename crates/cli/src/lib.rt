@@ -1,8 +1,19 @@
-// Files read no further than they tell, and written whole or not at all. (No contract can speak of what a file holds.)
+// What programs take from outside and leave there: the words of the command line, and files. No contract can speak of those.
+use std::env;
+use std::error::AnyError;
 use std::fs;
 use std::fs::File;
 use std::io;
 use std::io::Read;
+
+// The words of the command line after the program's name.
+pub fn words(rt: &LibcRuntime) -> Result<Vec<String>, AnyError> {
+    let mut words = Vec::new(rt.alloc());
+    for word in env::args(rt)?.skip(1) {
+        words.push(word)?;
+    }
+    Ok(words)
+}
 
 // The first bytes of a file, at most so many: a larger file is never kept in memory whole.
 pub fn read_beginning(rt: &LibcRuntime, name: &str, most: u64) -> io::Result<Vec<u8>> {

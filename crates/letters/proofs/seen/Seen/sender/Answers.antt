@@ -1,7 +1,0 @@
-use mathlib.Core.Path.{refl, _∙_}
-use Rattle.std.specs.Keys.{unsigned}
-use Rattle.std.proofs.shelf.Lawful.{tree-from-lawful}
-use Rattle.letters.proofs.seen.Seen.sender.Needs as need
-
-pub returns : need.returns
-returns c = c .copied .ensures ∙ c .get .ensures .finds (c .args .letter) refl unsigned (tree-from-lawful unsigned (c .args .self .now .sent) (c .args .self .now .sends))
