@@ -54,3 +54,65 @@ pub fn read_recorded(heap: Global, files: &[Vec<u8>]) -> Result<Recorded, AllocE
         }
     }
 }
+
+#[cfg(test)]
+mod tests {
+    use super::*;
+    use records::doing::Doing;
+    use records::doing::Kind;
+    use records::record::Record;
+    use records::writing::Writing;
+    use records::writing::write_record;
+    use std::test::*;
+
+    // The file of a machine that does one thing with a letter, its amount being so much after it.
+    fn file(heap: Global, machine: u8, kind: Kind, amount: u32) -> Result<Vec<u8>, Fail> {
+        let mut doings = Vec::new(heap);
+        doings.push(Doing {
+            kind,
+            sign: true,
+            amount,
+        })?;
+        let recorded = Record {
+            sign: false,
+            amount: 1_000_000,
+            doings,
+        };
+        let writing = write_record(heap, &recorded, machine)?;
+        match writing {
+            Writing::Whole(bytes) => Ok(bytes),
+            Writing::Beyond(_) => Err("beyond the limits".into()),
+        }
+    }
+
+    #[test]
+    fn what_was_written_is_read(rt: LibcRuntime) -> Result<(), Fail> {
+        let heap = rt.alloc();
+        let mut files = Vec::new(heap);
+        files.push(file(heap, 0, Kind::Gets(7), 1_000_000)?)?;
+        files.push(file(heap, 1, Kind::Sends(7), 0)?)?;
+        let recorded = read_recorded(heap, &files)?;
+        let Recorded::Run(run) = recorded else {
+            return Err("refused".into());
+        };
+        check_eq(run.doings(), 2)?;
+        let Some(letter) = run.letters.first() else {
+            return Err("no letter".into());
+        };
+        check_eq(letter.from, 1)?;
+        check_eq(letter.to, 0)
+    }
+
+    #[test]
+    fn a_letter_that_nobody_sent(rt: LibcRuntime) -> Result<(), Fail> {
+        let heap = rt.alloc();
+        let mut files = Vec::new(heap);
+        files.push(file(heap, 0, Kind::Neither, 0)?)?;
+        files.push(file(heap, 1, Kind::Gets(7), 0)?)?;
+        let recorded = read_recorded(heap, &files)?;
+        let Recorded::Refused(refusal) = recorded else {
+            return Err("not refused".into());
+        };
+        check(refusal.bytes() == [78, 3, 1, 0, 1])
+    }
+}
