@@ -5,12 +5,14 @@
 //! second compare FOLDER [--seed N] [--cases N] [--only CASE]
 //! second ask QUESTION ANSWER RECORD..
 //! second encode MACHINE TEXT RECORD
+//! second large FOLDER
 //! ```
 //!
 //! `compare` runs FOLDER/ask and FOLDER/encode on a fixed table of edge cases,
 //! whose outcomes are written out by hand, and on random cases, whose outcomes
 //! come from the implementation here. It stops at the first difference.
-//! `ask` and `encode` are that implementation as programs of their own.
+//! `ask` and `encode` are that implementation as programs of their own. `large`
+//! writes the records of a run as large as can be.
 
 mod ask;
 mod chance;
@@ -19,6 +21,7 @@ mod decimal;
 mod disk;
 mod encode;
 mod form;
+mod large;
 mod network;
 mod question;
 mod record;
@@ -36,6 +39,7 @@ const USAGE: &str = "\
 usage: second compare FOLDER [--seed N] [--cases N] [--only CASE]
        second ask QUESTION ANSWER RECORD..
        second encode MACHINE TEXT RECORD
+       second large FOLDER
 ";
 
 fn main() -> ExitCode {
@@ -60,6 +64,7 @@ fn run(words: &[OsString]) -> Result<Reply, Trouble> {
         Some("ask") => ask::run(rest),
         Some("encode") => encode::run(rest),
         Some("compare") => compare::run(rest),
+        Some("large") => large::run(rest),
         Some("--help") => Ok(Reply::help(USAGE)),
         _ => Err(Trouble::new(USAGE)),
     }

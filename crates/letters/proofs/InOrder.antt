@@ -3,7 +3,7 @@ use mathlib.Core.Path.{_≡_, refl, sym, ap, subst, _∙_}
 use mathlib.Core.Bool.{Bool, true, false, true≢false}
 use mathlib.Core.Logic.{_⊎_, inl, inr}
 use mathlib.Core.List.{List}
-use Prim.Native.Nat.{ℕ, zero, suc, _+_, _<_, _≤_}
+use Prim.Native.Nat.{ℕ, _+_, _<_, _≤_}
 use native.Mathlib.Omega.{arith}
 use native.Mathlib.Decide.{ℕ-discrete}
 use lib.ListN.{length, getD}
@@ -11,29 +11,18 @@ use Rattle.std.specs.Options.{isSome}
 use Rattle.std.specs.declared.option.Option.{Option}
 use Rattle.std.specs.declared.option.Option.the-variants.{Some, None}
 use Rattle.records.specs.declared.doing.Kind.{Kind}
-use Rattle.records.specs.declared.doing.Kind.the-variants.{Neither, Sends, Gets}
+use Rattle.records.specs.declared.doing.Kind.the-variants.{Neither}
 use Rattle.records.specs.declared.doing.Doing.{Doing}
 use Rattle.records.specs.declared.record.Record as code
 use Rattle.std.specs.Of.Vec.{vec-items}
-use Rattle.records.specs.Record.{Record, recordsOf, letterIn, kindOf, didOf}
+use Rattle.records.specs.Record.{Record, recordsOf, kindOf, didOf}
 use Rattle.records.specs.Refusal.{Earlier, FirstPlace, Again}
 use Rattle.records.specs.declared.place.Place.{Place}
 use Rattle.letters.specs.declared.seen.Seen.{Seen}
 use Rattle.letters.specs.Seen.{seenAt, Nothing, Put}
 use Rattle.letters.specs.Noting.{place, Sofar, Noted, NotedTo, MachineNoted}
+use Rattle.records.proofs.KindEquality.{same-or-not}
 use Rattle.letters.proofs.Machines.{part-is, within}
-
--- kinds are the same or not
-pub alike : (a b : Kind) → (a ≡ b) ⊎ (a ≡ b → ⊥)
-alike Neither Neither = inl refl
-alike Neither (Sends m) = inr (λ e. let z : _≡_ {A = ℕ} 0 1 = cc in omega arith)
-alike Neither (Gets m) = inr (λ e. let z : _≡_ {A = ℕ} 0 1 = cc in omega arith)
-alike (Sends l) Neither = inr (λ e. let z : _≡_ {A = ℕ} 0 1 = cc in omega arith)
-alike (Sends l) (Sends m) = elim (ℕ-discrete l m) [ yes e ↦ inl (ap Sends e) | no ne ↦ inr (λ e. ne (ap letterIn e)) ]
-alike (Sends l) (Gets m) = inr (λ e. let z : _≡_ {A = ℕ} 0 1 = cc in omega arith)
-alike (Gets l) Neither = inr (λ e. let z : _≡_ {A = ℕ} 0 1 = cc in omega arith)
-alike (Gets l) (Sends m) = inr (λ e. let z : _≡_ {A = ℕ} 0 1 = cc in omega arith)
-alike (Gets l) (Gets m) = elim (ℕ-discrete l m) [ yes e ↦ inl (ap Gets e) | no ne ↦ inr (λ e. ne (ap letterIn e)) ]
 
 pub there : (o : Option Place) → isSome o ≡ true → (x : Place) × (o ≡ Some x)
 there None h = absurd (true≢false (sym h))
@@ -82,9 +71,9 @@ module _ (rs : List Record) where
   one-more s t i m x b e f so put new =
       let here-kind : kindOf rs (x .machine) (x .doing) ≡ kindOf rs i m = kind-at x i m e f in
       record {
-        is = λ k y found. elim (alike k (kindOf rs i m)) [
+        is = λ k y found. elim (same-or-not k (kindOf rs i m)) [
           | inl same ↦
-              elim (alike (kindOf rs i m) Neither) [
+              elim (same-or-not (kindOf rs i m) Neither) [
                 | inl nothing ↦ never y _ (sym (ap (seenAt t) (same ∙ nothing)) ∙ found)
                 | inr some ↦
                     let y-is : y ≡ x = some-is y x (sym found ∙ ap (seenAt t) same ∙ put .here some) in (
@@ -97,7 +86,7 @@ module _ (rs : List Record) where
         ];
         all = λ q before some. elim (upto q i m before) [
           | inl earlier ↦
-              elim (alike (kindOf rs (q .machine) (q .doing)) (kindOf rs i m)) [
+              elim (same-or-not (kindOf rs (q .machine) (q .doing)) (kindOf rs i m)) [
                 | inl same ↦ ap (λ (k : Kind). isSome (seenAt t k)) same ∙ ap isSome (put .here (λ z. some (same ∙ z)))
                 | inr other ↦ ap isSome (put .others (kindOf rs (q .machine) (q .doing)) other) ∙ so .all q earlier some
               ]

@@ -7,8 +7,8 @@ use lib.ListN.{length, getD, take, drop, length-append, length-take, take-append
 use Rattle.std.proofs.shelf.Lists.{take-all, take-take, take-at, getD-map, length-map}
 use Rattle.records.specs.declared.doing.Doing.{Doing}
 use Rattle.records.specs.declared.place.Place.{Place}
-use Rattle.records.specs.Record.{Record, RecordFits, DoingFits, DoingsFit, headBytes, doingBytes, doingsBytes, recordBytes}
-use Rattle.records.specs.Refusal.{Earlier, FirstPlace, Read, ReadFrom, Begun, FileFault, FormFault}
+use Rattle.records.specs.Record.{Record, RecordFits, DoingFits, headBytes, doingBytes, doingsBytes, recordBytes}
+use Rattle.records.specs.Refusal.{FirstPlace, Read, ReadFrom, Begun, FileFault, FormFault}
 use Rattle.records.specs.Reading.{ReadAs, NoRecords, beginning, BeginAlike}
 use Rattle.records.proofs.Forms.{long, bytes-more, fit-more}
 use Rattle.records.proofs.Faults.{no-next}

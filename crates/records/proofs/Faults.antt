@@ -3,9 +3,9 @@ use mathlib.Core.Path.{_≡_, refl, sym, ap, subst, _∙_}
 use mathlib.Core.Bool.{Bool}
 use mathlib.Core.Logic.{_⊎_, inl, inr}
 use mathlib.Core.List.{List, [], _∷_, _++_, append-assoc, append-nil}
-use Prim.Native.Nat.{ℕ, zero, suc, _+_, _-_, _*_, _/_, _%_, _<_, _≤_}
+use Prim.Native.Nat.{ℕ, _+_, _-_, _/_, _%_, _<_, _≤_}
 use native.Mathlib.Omega.{arith}
-use lib.ListN.{length, getD, take, drop, length-append}
+use lib.ListN.{length, getD, drop, length-append}
 use Rattle.records.specs.declared.doing.Doing.{Doing}
 use Rattle.records.specs.Record.{Record, DoingFits, DoingsFit, RecordFits, headBytes, doingBytes, doingsBytes, recordBytes}
 use Rattle.records.specs.Refusal.{Begun, FileFault}
@@ -26,9 +26,7 @@ pub onward : (ds es : List Doing) (x y : List ℕ) → DoingsFit es → doingsBy
 onward [] es x y fs e le = (es, fs, e, omega arith)
 onward (d ∷ ds) [] x y fs e le = absurd (omega arith)
 onward (d ∷ ds) (g ∷ es) x y fs e le =
-    let e' : doingsBytes ds ++ x ≡ doingsBytes es ++ y =
-    ap (λ (l : List ℕ). drop 10 l) e in
-    let r = onward ds es x y (fs .1) e' (omega arith) in
+    let r = onward ds es x y (fs .1) (ap (λ (l : List ℕ). drop 10 l) e) (omega arith) in
     (r .0, r .1, r .2, omega (arith, r .3))
 
 module _ (i : ℕ) (f : List ℕ) where

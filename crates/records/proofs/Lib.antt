@@ -1,3 +1,4 @@
+pub mod KindEquality
 mod Forms
 mod OneFile
 mod Faults

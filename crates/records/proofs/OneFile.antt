@@ -10,7 +10,7 @@ use Rattle.records.specs.Refusal.{Begun, FileFault}
 use Rattle.records.specs.declared.doing.Doing.{Doing}
 use Rattle.records.specs.declared.record.Head.{Head}
 use Rattle.records.specs.declared.reading.Doings.{Doings}
-use Rattle.records.specs.declared.reading.Doings.the-variants.{All, Fault}
+use Rattle.records.specs.declared.reading.Doings.the-variants.{Fault}
 use Rattle.records.specs.Reading.{Begin, IsHead, NoHead, DoingsRead}
 
 pub no-head : (i : ℕ) (bs : List ℕ) → NoHead i bs → FileFault i bs 0

@@ -6,12 +6,12 @@ use Prim.Native.Nat.{ℕ, _+_, _/_, _%_}
 use native.Mathlib.Omega.{arith}
 use lib.ListN.{length, getD, drop}
 use Rattle.records.specs.declared.doing.Kind.{Kind}
-use Rattle.records.specs.declared.doing.Kind.the-variants.{Neither, Sends, Gets}
 use Rattle.records.specs.declared.doing.Doing.{Doing}
 use Rattle.records.specs.declared.place.Place.{Place}
-use Rattle.records.specs.Record.{Record, RecordFits, kindCode, letterIn, signByte, doingBytes, doingsBytes, recordBytes}
+use Rattle.records.specs.Record.{Record, letterIn, signByte, doingBytes, doingsBytes, recordBytes}
 use Rattle.records.specs.Refusal.{FirstPlace, Read, ReadFrom, FormFault}
 use Rattle.records.specs.Reading.{ReadAs, NoRecords}
+use Rattle.records.proofs.KindEquality.{same-kind}
 use Rattle.records.proofs.Faults.{head-count, no-fault-of}
 use Rattle.records.proofs.InOrder.{as-many, each-short, read-at}
 
@@ -29,17 +29,6 @@ same-sign true true e = refl
 same-sign true false e = absurd (omega arith)
 same-sign false true e = absurd (omega arith)
 same-sign false false e = refl
-
-same-kind : (a b : Kind) → kindCode a ≡ kindCode b → letterIn a ≡ letterIn b → a ≡ b
-same-kind Neither Neither e f = refl
-same-kind Neither (Sends m) e f = absurd (omega arith)
-same-kind Neither (Gets m) e f = absurd (omega arith)
-same-kind (Sends l) Neither e f = absurd (omega arith)
-same-kind (Sends l) (Sends m) e f = ap Sends f
-same-kind (Sends l) (Gets m) e f = absurd (omega arith)
-same-kind (Gets l) Neither e f = absurd (omega arith)
-same-kind (Gets l) (Sends m) e f = absurd (omega arith)
-same-kind (Gets l) (Gets m) e f = ap Gets f
 
 same-doing : (d e : Doing) (x y : List ℕ) → doingBytes d ++ x ≡ doingBytes e ++ y → d ≡ e
 same-doing d e x y h =

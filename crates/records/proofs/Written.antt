@@ -1,6 +1,5 @@
 -- Bytes put one after another, up to a doing beyond the limits.
-use mathlib.Core.Path.{_≡_, refl, sym, ap, subst, _∙_}
-use mathlib.Core.Logic.{_⊎_, inl, inr}
+use mathlib.Core.Path.{_≡_, sym, ap, subst, _∙_}
 use mathlib.Core.List.{List, [], _∷_, _++_, append-assoc, append-nil}
 use Prim.Native.Nat.{ℕ, _+_, _<_, _≤_}
 use native.Mathlib.Omega.{arith}
@@ -8,10 +7,10 @@ use native.Mathlib.Numerals.{add-one}
 use lib.ListN.{length, getD, take, drop, length-take, take-append-drop}
 use lib.Seq.{drop-cons}
 use Rattle.std.proofs.shelf.Lists.{take-all, take-more}
-use Rattle.std.specs.Of.Vec.{vec-items, vec-len}
+use Rattle.std.specs.Of.Vec.{vec-items}
 use Rattle.records.specs.declared.doing.Doing.{Doing}
 use Rattle.records.specs.declared.record.Record as code
-use Rattle.records.specs.Record.{Record, recordOf, DoingFits, DoingsFit, RecordFits, headBytes, doingBytes, doingsBytes, recordBytes}
+use Rattle.records.specs.Record.{Record, recordOf, DoingFits, DoingsFit, RecordFits, headBytes, doingBytes, doingsBytes}
 use Rattle.records.specs.Writing.{FirstBeyond, Beyond, Form}
 use Rattle.records.proofs.Forms.{bytes-more, fit-more}
 use Rattle.records.proofs.Faults.{no-fault-of}

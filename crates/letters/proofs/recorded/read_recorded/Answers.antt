@@ -1,7 +1,6 @@
 use mathlib.Core.List.{List}
 use mathlib.Core.Path.{_≡_, refl, sym, subst}
 use Prim.Native.Nat.{ℕ}
-use Rattle.std.specs.Of.Vec.{vec-items}
 use Rattle.records.specs.declared.reading.Files.{Files}
 use Rattle.records.specs.declared.record.Record.{Record}
 use Rattle.records.specs.Record.{recordsOf}

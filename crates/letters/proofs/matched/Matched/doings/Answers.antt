@@ -1,11 +1,9 @@
 use mathlib.Core.Path.{_≡_, ap, _∙_}
-use mathlib.Core.List.{List}
 use Prim.Native.Nat.{_≤_}
 use native.Mathlib.Omega.{arith}
-use lib.ListN.{length}
 use Rattle.std.proofs.shelf.Lists.{length-map, take-all}
-use Rattle.std.specs.Of.Vec.{vec-items, vec-len}
-use Rattle.records.specs.Record.{Record, recordOf, recordsOf, didOf, doingsIn}
+use Rattle.std.specs.Of.Vec.{vec-items}
+use Rattle.records.specs.Record.{recordOf, recordsOf, didOf, doingsIn}
 use Rattle.letters.proofs.Machines.{did-is, doings-more}
 use Rattle.letters.proofs.matched.Matched.doings.Needs as need
 
