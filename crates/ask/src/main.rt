@@ -5,6 +5,7 @@ use cli::write_whole;
 use letters::matched::Matched;
 use letters::recorded::Recorded;
 use letters::recorded::read_recorded;
+use records::place::Place;
 use records::reading::TELLING;
 use records::refusal::Refusal;
 use std::error::AnyError;
@@ -42,20 +43,37 @@ fn beginnings(rt: &LibcRuntime, names: &[String]) -> Result<Option<Vec<Vec<u8>>>
     Ok(Some(files))
 }
 
-fn tell_refusal(rt: &LibcRuntime, refusal: Refusal) -> Result<(), AnyError> {
+// What a refusal by form is about; the file, where there is one, is named.
+fn tell_form(rt: &LibcRuntime, place: Place, names: &[String]) -> Result<(), AnyError> {
+    let doing = place.doing;
+    let Some(name) = names.get(place.machine as usize) else {
+        println!(rt, "There is no record.")?;
+        return Ok(());
+    };
+    match place {
+        Place { machine: 40, .. } => println!(
+            rt,
+            "There are more than 40 records; {name} is the first too many."
+        )?,
+        Place { machine, doing: 0 } => println!(
+            rt,
+            "{name} is no record of machine {machine}: what stands before its first doing is wrong or cut short, or more follows where there is none."
+        )?,
+        Place { machine, .. } => println!(
+            rt,
+            "{name} is no record of machine {machine}: its doing {doing} is wrong or cut short, or more follows after its last."
+        )?,
+    }
+    Ok(())
+}
+
+fn tell_refusal(rt: &LibcRuntime, refusal: Refusal, names: &[String]) -> Result<(), AnyError> {
     let number = refusal.number();
     let machine = refusal.place().machine;
     let doing = refusal.place().doing;
     println!(rt, "refused {number} at {machine} {doing}")?;
     match refusal {
-        Refusal::Form(_) if doing == 0 => println!(
-            rt,
-            "Machine {machine} has no record in form: what stands before its first doing is wrong or missing, or there is no file, or a file too many."
-        )?,
-        Refusal::Form(_) => println!(
-            rt,
-            "The record of machine {machine} is not in form: its doing {doing} is wrong or missing, or bytes follow its last."
-        )?,
+        Refusal::Form(place) => tell_form(rt, place, names)?,
         Refusal::Again(_) => println!(
             rt,
             "Doing {doing} of machine {machine} sends a letter that was sent already, or gets one that was got already."
@@ -68,12 +86,17 @@ fn tell_refusal(rt: &LibcRuntime, refusal: Refusal) -> Result<(), AnyError> {
     Ok(())
 }
 
-fn refuse(rt: &LibcRuntime, answer: &str, refusal: Refusal) -> Result<End, AnyError> {
+fn refuse(
+    rt: &LibcRuntime,
+    answer: &str,
+    refusal: Refusal,
+    names: &[String],
+) -> Result<End, AnyError> {
     if let Err(error) = write_whole(rt, answer, &refusal.bytes()) {
         eprintln!(rt, "ask: {answer} can't be written: {error}")?;
         return Ok(End::Failed);
     }
-    tell_refusal(rt, refusal)?;
+    tell_refusal(rt, refusal, names)?;
     Ok(End::Refused)
 }
 
@@ -96,7 +119,7 @@ fn ask(rt: &LibcRuntime, question: &str, answer: &str, names: &[String]) -> Resu
     };
     let recorded = read_recorded(rt.alloc(), &files)?;
     match recorded {
-        Recorded::Refused(refusal) => refuse(rt, answer, refusal),
+        Recorded::Refused(refusal) => refuse(rt, answer, refusal, names),
         Recorded::Run(run) => tell_undecided(rt, question, &run),
     }
 }
