@@ -1,4 +1,4 @@
-mod Machines
+pub mod Machines
 mod Seeing
 mod InOrder
 mod Linking

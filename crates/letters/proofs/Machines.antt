@@ -6,7 +6,7 @@ use native.Mathlib.Omega.{arith}
 use native.Mathlib.Numerals.{add-one}
 use lib.ListN.{length, getD, take}
 use Rattle.std.proofs.shelf.Lists.{getD-map}
-use Rattle.std.specs.Of.Vec.{vec-items}
+use Rattle.std.specs.Of.Vec.{vec-items, vec-len}
 use Rattle.records.specs.declared.doing.Kind.the-variants.{Neither}
 use Rattle.records.specs.declared.doing.Doing.{Doing}
 use Rattle.records.specs.declared.record.Record as code
@@ -44,8 +44,8 @@ pub within : (rs : List Record) (i m : ℕ) → (kindOf rs i m ≡ Neither → �
 within rs i m some = let h = kind-within (machineOf rs i .doings) m some in (machine-within rs i m some, h .0, h .1)
 
 -- how many doings there are, machine by machine
-pub did-is : (rs : List code.Record) (i : ℕ) (r : code.Record) → i < length rs → r ≡ getD rs i r → didOf (recordsOf rs) i ≡ length (vec-items (r .doings))
-did-is rs i r lt e = ap length (part-is rs i r (vec-items (r .doings)) lt (ap (λ (x : code.Record). vec-items (x .doings)) e))
+pub did-is : (rs : List code.Record) (i : ℕ) (d : code.Record) → i < length rs → didOf (recordsOf rs) i ≡ vec-len (getD rs i d .doings)
+did-is rs i d lt = ap length (part-is rs i d (vec-items (getD rs i d .doings)) lt refl) ∙ sym (getD rs i d .doings .ok .0)
 
 pub doings-more : (rs : List Record) (i : ℕ) → i < length rs → doingsIn (take (i + 1) rs) ≡ doingsIn (take i rs) + didOf rs i
 doings-more rs i lt = rw add-one (go rs i lt)

@@ -101,3 +101,20 @@ kindIn (d ∷ ds) (suc (suc m)) = kindIn ds (suc m)
 
 abbrev pub kindOf : List Record → ℕ → ℕ → Kind
 kindOf rs i m = kindIn (machineOf rs i .doings) m
+
+-- sign and amount of machine i after m doings; past the last as after the last
+abbrev pub signIn : Bool → List Doing → ℕ → Bool
+signIn s [] m = s
+signIn s (d ∷ ds) zero = s
+signIn s (d ∷ ds) (suc m) = signIn (d .sign) ds m
+
+abbrev pub amountIn : ℕ → List Doing → ℕ → ℕ
+amountIn a [] m = a
+amountIn a (d ∷ ds) zero = a
+amountIn a (d ∷ ds) (suc m) = amountIn (d .amount) ds m
+
+abbrev pub signOf : List Record → ℕ → ℕ → Bool
+signOf rs i m = signIn (machineOf rs i .sign) (machineOf rs i .doings) m
+
+abbrev pub amountOf : List Record → ℕ → ℕ → ℕ
+amountOf rs i m = amountIn (machineOf rs i .amount) (machineOf rs i .doings) m

@@ -1,8 +1,9 @@
-use mathlib.Core.Path.{_≡_, ap, _∙_}
+use mathlib.Core.Path.{_≡_, sym, ap, _∙_}
 use Prim.Native.Nat.{_≤_}
 use native.Mathlib.Omega.{arith}
 use Rattle.std.proofs.shelf.Lists.{length-map, take-all}
-use Rattle.std.specs.Of.Vec.{vec-items}
+use Rattle.std.specs.Of.Vec.{vec-items, vec-len}
+use Rattle.records.specs.declared.record.Record as code
 use Rattle.records.specs.Record.{recordOf, recordsOf, didOf, doingsIn}
 use Rattle.letters.proofs.Machines.{did-is, doings-more}
 use Rattle.letters.proofs.matched.Matched.doings.Needs as need
@@ -11,8 +12,9 @@ use Rattle.letters.proofs.matched.Matched.doings.Needs as need
 added : (c : need.After-len-all) → (c .len-all .result ≡ didOf (recordsOf (vec-items (c .args .self .now .records))) (c .loop-i .i)) × (c .len-all .result ≤ 500)
 added c =
     let rs = c .args .self .now .records in
-    let is = did-is (vec-items rs) (c .loop-i .i) (c .index .result .now) (omega (arith, rs .ok .0, c .len-i-end .ensures)) (c .index .ensures) in
-    (omega (arith, is, c .len-all .ensures, c .index .result .now .doings .ok .0), omega (arith, is, c .len-all .ensures, c .index .result .now .doings .ok .0, c .args .self .now .short (c .loop-i .i)))
+    let is : c .len-all .result ≡ didOf (recordsOf (vec-items rs)) (c .loop-i .i) =
+    c .len-all .ensures ∙ ap (λ (x : code.Record). vec-len (x .doings)) (c .index .ensures) ∙ sym (did-is (vec-items rs) (c .loop-i .i) (c .index .result .now) (omega (arith, rs .ok .0, c .len-i-end .ensures))) in
+    (is, omega (arith, is, c .args .self .now .short (c .loop-i .i)))
 
 pub add-all : need.add-all
 add-all c = record { fits = omega (arith, added c .1, c .loop-i .inv .1, c .args .self .now .few, length-map (vec-items (c .args .self .now .records)) recordOf, c .args .self .now .records .ok .0, c .len-i-end .ensures) }

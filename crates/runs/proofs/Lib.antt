@@ -1,0 +1,5 @@
+mod Zeros
+mod Layouts
+pub mod Linked
+mod Sendings
+mod Made

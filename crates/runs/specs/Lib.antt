@@ -1,0 +1,4 @@
+pub mod Shape
+pub mod Run
+pub mod Model
+pub mod Making
