@@ -1,4 +1,5 @@
 mod Zeros
+pub mod Places
 mod Layouts
 pub mod Linked
 mod Sendings

@@ -3,10 +3,10 @@ use mathlib.Core.Path.{_≡_, refl, sym, subst, ap, _∙_}
 use mathlib.Core.Logic.{_⊎_, inl, inr, ⊎-elim}
 use mathlib.Core.List.{List, [], _∷_, _++_, List·Memᴰ, List·Memᴰ·head, List·Memᴰ·not-nil, List·Memᴰ·append-cases, List·Memᴰ·eq-of-singleton, Memᴰ·append-left, Memᴰ·append-right}
 use mathlib.Core.Bool.{true, _&&_}
-use Prim.Native.Nat.{ℕ, zero, suc, _+_, _<_, _≤_}
+use Prim.Native.Nat.{ℕ, zero, suc, _+_, _*_, _<_, _≤_}
 use native.Mathlib.Omega.{arith}
 use lib.Dec.{ltb, leb}
-use lib.ListN.{getD}
+use lib.ListN.{length, getD, length-append}
 use Rattle.std.proofs.shelf.Tests.{cases-eq, and-parts, ltb-true, leb-true}
 use Rattle.std.specs.declared.option.Option.{Option}
 use Rattle.std.specs.declared.option.Option.the-variants.{Some, None}
@@ -103,3 +103,48 @@ module _ (r : code.Run) where
   -- and where a getting has a sending there is one
   pub letter-sent : (p : Place) (j m : ℕ) → j < r .count → 1 ≤ m → m ≤ countsOf (r .did) j → sendingOf r j m ≡ Some p → List·Memᴰ (letter p j m) (runOf r .letters)
   letter-sent p j m = from-in (sendingOf r) (countsOf (r .did)) p (r .count) j m
+
+-- how letters and gettings' sendings belong together
+pub record Linked (r : Run) (sending : Sending) : Type 0 where
+  pub range : Done r
+  pub got : (l : Letter) → List·Memᴰ l (r .letters) → sending (l .to) (l .got) ≡ Some (cameFrom l)
+  pub sent : (p : Place) (j m : ℕ) → j < r .count → 1 ≤ m → m ≤ r .did j → sending j m ≡ Some p → List·Memᴰ (letter p j m) (r .letters)
+
+pub linked : (r : code.Run) → Linked (runOf r) (sendingOf r)
+linked r = record { range = letters-done r; got = letter-got r; sent = letter-sent r }
+
+-- how many letters are got behind a cut: no more than doings, and one more with a getting
+pub by-few : (sending : Sending) (j m : ℕ) → length (lettersBy sending j m) ≤ m
+by-few sending j zero = omega arith
+by-few sending j (suc m) = omega (arith, by-few sending j m, length-append (letterTo j (suc m) (sending j (suc m))) (lettersBy sending j m), one-few (sending j (suc m)))
+  where
+    one-few : (o : Option Place) → length (letterTo j (suc m) o) ≤ 1
+    one-few None = omega arith
+    one-few (Some p) = omega arith
+
+pub in-few : (sending : Sending) (c : ℕ → ℕ) (n : ℕ) → ((i : ℕ) → i < n → c i ≤ 500) → length (lettersIn sending c n) ≤ 500 * n
+in-few sending c zero few = omega arith
+in-few sending c (suc n) few = omega (arith, in-few sending c n (λ i lt. few i (omega arith)), few n (omega arith), by-few sending n (c n), length-append (lettersBy sending n (c n)) (lettersIn sending c n))
+
+pub in-same : (sending : Sending) (c d : ℕ → ℕ) (n : ℕ) → ((i : ℕ) → i < n → d i ≡ c i) → lettersIn sending d n ≡ lettersIn sending c n
+in-same sending c d zero same = refl
+in-same sending c d (suc n) same =
+    ap (λ (m : ℕ). lettersBy sending n m ++ lettersIn sending d n) (same n (omega arith)) ∙ ap (λ (x : List Letter). lettersBy sending n (c n) ++ x) (in-same sending c d n (λ i lt. same i (omega arith)))
+
+pub in-more : (sending : Sending) (c d : ℕ → ℕ) (n j : ℕ) → j < n → d j ≡ c j + 1 → ((i : ℕ) → (i ≡ j → ⊥) → d i ≡ c i) → length (lettersIn sending d n) ≡ length (lettersIn sending c n) + length (letterTo j (d j) (sending j (d j)))
+in-more sending c d zero j lt one rest = absurd (omega arith)
+in-more sending c d (suc n) j lt one rest =
+    ⊎-elim
+    (λ e.
+      let same : lettersIn sending d n ≡ lettersIn sending c n = in-same sending c d n (λ i li. rest i (omega arith)) in
+      let here : length (lettersBy sending j (d j)) ≡ length (letterTo j (d j) (sending j (d j))) + length (lettersBy sending j (c j)) = by-more (d j) (c j) one in
+      let P : ℕ → Type 0 = λ k. length (lettersBy sending k (d k) ++ lettersIn sending d n) ≡ length (lettersBy sending k (c k) ++ lettersIn sending c n) + length (letterTo j (d j) (sending j (d j))) in
+      subst P e (omega (arith, here, ap length same, length-append (lettersBy sending j (d j)) (lettersIn sending d n), length-append (lettersBy sending j (c j)) (lettersIn sending c n))))
+    (λ ne.
+      omega (arith, in-more sending c d n j (omega arith) one rest, ap (λ (m : ℕ). length (lettersBy sending n m)) (rest n (λ e. ne (sym e))),
+      length-append (lettersBy sending n (d n)) (lettersIn sending d n), length-append (lettersBy sending n (c n)) (lettersIn sending c n)))
+    (cases-eq j n)
+  where
+    by-more : (x y : ℕ) → x ≡ y + 1 → length (lettersBy sending j x) ≡ length (letterTo j x (sending j x)) + length (lettersBy sending j y)
+    by-more zero y e = absurd (omega arith)
+    by-more (suc x) y e = length-append (letterTo j (suc x) (sending j (suc x))) (lettersBy sending j x) ∙ ap (λ (k : ℕ). length (letterTo j (suc x) (sending j (suc x))) + length (lettersBy sending j k)) (omega arith)

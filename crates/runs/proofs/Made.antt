@@ -9,7 +9,7 @@ use native.Mathlib.Nat.{add-assoc}
 use lib.Dec.{ltb, leb}
 use lib.ListN.{length, getD, take, length-append}
 use Rattle.std.proofs.shelf.Lists.{length-map, refilled-is, take-all, getD-past, getD-append-left, getD-append-add}
-use Rattle.std.proofs.shelf.Tests.{cases-lt, cases-eq, lt-ltb, le-leb}
+use Rattle.std.proofs.shelf.Tests.{cases-lt, lt-ltb, le-leb}
 use Rattle.std.specs.Of.Vec.{vec-items}
 use Rattle.std.specs.Changed.{refilled}
 use Rattle.std.specs.declared.vec.Vec.{Vec}
@@ -34,6 +34,7 @@ use Rattle.runs.specs.Shape.{still, index, sentWithin, Inside, Apart, Sent}
 use Rattle.runs.specs.Run.{Makes}
 use Rattle.runs.specs.Model.{runOf, sendingOf, stateOf, RunOf}
 use Rattle.runs.specs.Making.{stateAfter, statesAfter, statesOf, allStates, Laid, Within, gotIndex, linked}
+use Rattle.runs.proofs.Places.{same-index}
 use Rattle.runs.proofs.Layouts.{linked-long}
 use Rattle.runs.proofs.Linked.{cameFrom, letter, letters-done, letter-got, letter-sent}
 use Rattle.runs.proofs.Sendings.{mem-at, AllWithin, InOrder, same-sign, stands, from-letter}
@@ -136,14 +137,6 @@ module _ (rs : List Record) (ls : List Letter) (did starts : Counts) (ss : List 
       (λ same. omega (arith, ap (λ (i : ℕ). getD (starts .of) i 0) (same .0), same .1))
       before
 
-  -- two states at one place are one machine's after as many doings
-  same-index : (i m j o : ℕ) → i < length rs → j < length rs → m ≤ getD (did .of) i 0 → o ≤ getD (did .of) j 0 → index starts i m ≡ index starts j o → (i ≡ j) × (m ≡ o)
-  same-index i m j o li lj lm lo e =
-      ⊎-elim
-      (λ same. (same, omega (arith, ap (λ (x : ℕ). getD (starts .of) x 0) same)))
-      (λ ne. absurd (⊎-elim (λ lt. omega (arith, apart i j lt lj)) (λ ge. omega (arith, ne, apart j i (omega (arith, ne)) li)) (cases-lt i j)))
-      (cases-eq i j)
-
   -- a sending that stands is a letter's
   came : (p : ℕ) (q : Place) → getD (linked starts ls ss) p still .sending ≡ Some q → (l : Letter) × List·Memᴰ l ls × (p ≡ gotIndex starts l) × (cameFrom l ≡ q)
   came p q is =
@@ -186,7 +179,7 @@ module _ (rs : List Record) (ls : List Letter) (did starts : Counts) (ss : List 
         let x = came (index starts (l .to) (l .got)) (cameFrom l) (sym (ap (λ (s : State). s .sending) (state-is (l .to) (l .got))) ∙ letter-got r l mem) in
         let b = ends (x .0) (x .1) .1 in
         let lt : l .to < length rs = omega (arith, d .1, count-is) in
-        let one = same-index (l .to) (l .got) (x .0 .to) (x .0 .got) lt (b .0) (omega (arith, d .5, did-at (l .to), laid .doings (l .to) lt)) (omega (arith, b .2, laid .doings (x .0 .to) (b .0))) (x .2) in
+        let one = same-index (length rs) did starts apart (l .to) (l .got) (x .0 .to) (x .0 .got) lt (b .0) (omega (arith, d .5, did-at (l .to), laid .doings (l .to) lt)) (omega (arith, b .2, laid .doings (x .0 .to) (b .0))) (x .2) in
         let k = of .known (x .0) (x .1) in
         let from : l .from ≡ x .0 .from = sym (ap (λ (p : Place). p .machine) (x .3)) in
         let sent-as : l .sent ≡ x .0 .sent = sym (ap (λ (p : Place). p .doing) (x .3)) in

@@ -1,4 +1,5 @@
 pub mod Shape
 pub mod Run
+pub mod Moment
 pub mod Model
 pub mod Making

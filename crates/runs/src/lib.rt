@@ -3,3 +3,4 @@ pub mod counts;
 pub mod making;
 pub mod run;
 pub mod state;
+pub mod reads;

@@ -1,0 +1,5 @@
+pub mod Behind
+mod OneMore
+mod Stuck
+mod Sizes
+mod Joins

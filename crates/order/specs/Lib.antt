@@ -1,0 +1,4 @@
+pub mod Vectors
+pub mod Rows
+pub mod Steps
+pub mod Ordering

@@ -1,0 +1,5 @@
+// What comes before what: vectors, or the ring that shows that no run can have made the records.
+pub mod ordered;
+pub mod ordering;
+pub(crate) mod progress;
+pub(crate) mod vectors;
