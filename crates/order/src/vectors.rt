@@ -22,7 +22,13 @@ fn row_at(run: &Run, rows: &[Counts], machine: usize, done: u16) -> Counts
 }
 
 // The row of a machine's next doing, if what it gets has been sent, and the pairs joined for it.
-fn row_of(run: &Run, rows: &[Counts], cut: Counts, machine: usize, next: u16) -> Option<(Counts, u64)>
+fn row_of(
+    run: &Run,
+    rows: &[Counts],
+    cut: Counts,
+    machine: usize,
+    next: u16,
+) -> Option<(Counts, u64)>
     requires inside { ⌜ machine < now run .count ⌝ }
     requires next { ⌜ next ≡ getD (cut .of) machine 0 + 1 ⌝ }
     requires done { ⌜ next ≤ getD (now run .did .of) machine 0 ⌝ }

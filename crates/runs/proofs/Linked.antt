@@ -136,13 +136,18 @@ in-more sending c d zero j lt one rest = absurd (omega arith)
 in-more sending c d (suc n) j lt one rest =
     ⊎-elim
     (λ e.
-      let same : lettersIn sending d n ≡ lettersIn sending c n = in-same sending c d n (λ i li. rest i (omega arith)) in
-      let here : length (lettersBy sending j (d j)) ≡ length (letterTo j (d j) (sending j (d j))) + length (lettersBy sending j (c j)) = by-more (d j) (c j) one in
-      let P : ℕ → Type 0 = λ k. length (lettersBy sending k (d k) ++ lettersIn sending d n) ≡ length (lettersBy sending k (c k) ++ lettersIn sending c n) + length (letterTo j (d j) (sending j (d j))) in
-      subst P e (omega (arith, here, ap length same, length-append (lettersBy sending j (d j)) (lettersIn sending d n), length-append (lettersBy sending j (c j)) (lettersIn sending c n))))
+    let same : lettersIn sending d n ≡ lettersIn sending c n = in-same sending c d n (λ i li. rest i (omega arith)) in
+    let here : length (lettersBy sending j (d j)) ≡ length (letterTo j (d j) (sending j (d j))) + length (lettersBy sending j (c j)) = by-more (d j) (c j) one in
+    let P : ℕ → Type 0 = λ k. length (lettersBy sending k (d k) ++ lettersIn sending d n) ≡ length (lettersBy sending k (c k) ++ lettersIn sending c n) + length (letterTo j (d j) (sending j (d j))) in
+    subst P e (omega (arith, here, ap length same, length-append (lettersBy sending j (d j)) (lettersIn sending d n), length-append (lettersBy sending j (c j)) (lettersIn sending c n))))
     (λ ne.
-      omega (arith, in-more sending c d n j (omega arith) one rest, ap (λ (m : ℕ). length (lettersBy sending n m)) (rest n (λ e. ne (sym e))),
-      length-append (lettersBy sending n (d n)) (lettersIn sending d n), length-append (lettersBy sending n (c n)) (lettersIn sending c n)))
+    omega (
+      arith,
+      in-more sending c d n j (omega arith) one rest,
+      ap (λ (m : ℕ). length (lettersBy sending n m)) (rest n (λ e. ne (sym e))),
+      length-append (lettersBy sending n (d n)) (lettersIn sending d n),
+      length-append (lettersBy sending n (c n)) (lettersIn sending c n),
+    ))
     (cases-eq j n)
   where
     by-more : (x y : ℕ) → x ≡ y + 1 → length (lettersBy sending j x) ≡ length (letterTo j x (sending j x)) + length (lettersBy sending j y)

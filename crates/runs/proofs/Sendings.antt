@@ -42,8 +42,11 @@ module _ (starts : Counts) where
   unfolding one
   one-is l ss p lt =
       ⊎-elim
-      (λ e. inl (e, ap (λ (x : ℕ). getD (set ss (gotIndex starts l) (heard l (getD ss (gotIndex starts l) still))) x still) e
-          ∙ getD-set-same ss (gotIndex starts l) (heard l (getD ss (gotIndex starts l) still)) still lt ∙ ap (λ (x : ℕ). heard l (getD ss x still)) (sym e)))
+      (λ e. inl (
+        e,
+        ap (λ (x : ℕ). getD (set ss (gotIndex starts l) (heard l (getD ss (gotIndex starts l) still))) x still) e
+            ∙ getD-set-same ss (gotIndex starts l) (heard l (getD ss (gotIndex starts l) still)) still lt ∙ ap (λ (x : ℕ). heard l (getD ss x still)) (sym e),
+      ))
       (λ ne. inr (ne, getD-set-other ss (gotIndex starts l) p (heard l (getD ss (gotIndex starts l) still)) still ne))
       (cases-eq p (gotIndex starts l))
 
@@ -83,10 +86,10 @@ module _ (starts : Counts) where
       let p : ℕ = gotIndex starts x in
       ⊎-elim
       (λ e.
-        let later : (y : Letter) → List·Memᴰ y ls → gotIndex starts l < gotIndex starts y = λ y my. order l y (List·Memᴰ·head refl) (List·Memᴰ·tail my) (rising .0 y my) in
-        ap (λ (z : List State). getD z p still .sending) (linked-one l ls ss)
-        ∙ ap (λ (s : State). s .sending) (untouched ls (one l ss) p (rest-within l ls ss inside) (λ y my same. omega (arith, later y my, ap (gotIndex starts) e)))
-        ∙ ⊎-elim (λ h. ap (λ (s : State). s .sending) (h .1) ∙ ap (λ (z : Letter). Some (cameFrom z)) (sym e)) (λ h. absurd (h .0 (ap (gotIndex starts) e))) (one-is l ss p (inside l (List·Memᴰ·head refl))))
+      let later : (y : Letter) → List·Memᴰ y ls → gotIndex starts l < gotIndex starts y = λ y my. order l y (List·Memᴰ·head refl) (List·Memᴰ·tail my) (rising .0 y my) in
+      ap (λ (z : List State). getD z p still .sending) (linked-one l ls ss)
+      ∙ ap (λ (s : State). s .sending) (untouched ls (one l ss) p (rest-within l ls ss inside) (λ y my same. omega (arith, later y my, ap (gotIndex starts) e)))
+      ∙ ⊎-elim (λ h. ap (λ (s : State). s .sending) (h .1) ∙ ap (λ (z : Letter). Some (cameFrom z)) (sym e)) (λ h. absurd (h .0 (ap (gotIndex starts) e))) (one-is l ss p (inside l (List·Memᴰ·head refl))))
       (λ more. ap (λ (z : List State). getD z p still .sending) (linked-one l ls ss) ∙ stands ls (one l ss) x (rest-within l ls ss inside) (rising .1) (λ y z my mz. order y z (List·Memᴰ·tail my) (List·Memᴰ·tail mz)) more)
       (List·Memᴰ·cases-cons mem)
 
@@ -97,8 +100,8 @@ module _ (starts : Counts) where
   from-letter (l ∷ ls) ss p q inside is =
       ⊎-elim
       (λ here. ⊎-elim
-        (λ h. inr (l, List·Memᴰ·head refl, h .0, let e : Some (cameFrom l) ≡ Some q = sym (ap (λ (s : State). s .sending) (h .1)) ∙ here in cc))
-        (λ h. inl (sym (ap (λ (s : State). s .sending) (h .1)) ∙ here))
-        (one-is l ss p (inside l (List·Memᴰ·head refl))))
+      (λ h. inr (l, List·Memᴰ·head refl, h .0, let e : Some (cameFrom l) ≡ Some q = sym (ap (λ (s : State). s .sending) (h .1)) ∙ here in cc))
+      (λ h. inl (sym (ap (λ (s : State). s .sending) (h .1)) ∙ here))
+      (one-is l ss p (inside l (List·Memᴰ·head refl))))
       (λ more. inr (more .0, List·Memᴰ·tail (more .1), more .2, more .3))
       (from-letter ls (one l ss) p q (rest-within l ls ss inside) (sym (ap (λ (z : List State). getD z p still .sending) (linked-one l ls ss)) ∙ is))

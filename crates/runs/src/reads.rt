@@ -14,7 +14,8 @@ impl Run {
         requires done { ⌜ doing ≤ getD (now self .did .of) machine 0 ⌝ }
         ensures { λ r. ⌜ r ≡ sendingOf (now (self .entry)) machine doing ⌝ }
     {
-        self.states[self.starts.of[machine] as usize + doing as usize].sending
+        self.states[self.starts.of[machine] as usize + doing as usize]
+            .sending
     }
 
     // The machine's next doing, if it has one.

@@ -45,8 +45,8 @@ returns c =
           (ap (λ (w : Counts). countsOf w j) at ∙ told .1 .0)
           (λ k k< ne. ap (λ (w : Counts). countsOf w k) at ∙ told .1 .1 k k< ne)
           (λ a b a< b≤. ap countsOf (getD-set-other rows p (index (run .starts) a b) row none (λ e.
-              let same = same-index (run .count) (run .did) (run .starts) (run .apart) a b j m a< (c .pre .inside) (omega (arith, c .pre .done .moment .inside a a<)) (next .1) e in
-              omega (arith, ap (countsOf cut) (same .0), same .1, next .0))))
+          let same = same-index (run .count) (run .did) (run .starts) (run .apart) a b j m a< (c .pre .inside) (omega (arith, c .pre .done .moment .inside a a<)) (next .1) e in
+          omega (arith, ap (countsOf cut) (same .0), same .1, next .0))))
           (countsOf (c .with .result)) here rest;
       one = here ∙ next .0;
       others = rest;
