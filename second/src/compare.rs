@@ -3,9 +3,11 @@
 mod asks;
 mod case;
 mod damage;
+mod disorder;
 mod expected;
 mod fields;
 mod fixed;
+mod numbers;
 mod options;
 mod scratch;
 mod simulation;
@@ -118,6 +120,7 @@ mod tests {
             "refused 1",
             "refused 2",
             "refused 3",
+            "refused 4",
             "texts encoded",
             "texts not encoded",
         ] {

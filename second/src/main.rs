@@ -5,14 +5,15 @@
 //! second compare FOLDER [--seed N] [--cases N] [--only CASE]
 //! second ask QUESTION ANSWER RECORD..
 //! second encode MACHINE TEXT RECORD
-//! second large FOLDER
+//! second large|tangle|circle FOLDER
 //! ```
 //!
 //! `compare` runs FOLDER/ask and FOLDER/encode on a fixed table of edge cases,
 //! whose outcomes are written out by hand, and on random cases, whose outcomes
 //! come from the implementation here. It stops at the first difference.
-//! `ask` and `encode` are that implementation as programs of their own. `large`
-//! writes the records of a run as large as can be.
+//! `ask` and `encode` are that implementation as programs of their own. `large`,
+//! `tangle` and `circle` write the records of runs as large as can be: without a
+//! ring, with very many, and with one of all doings.
 
 mod ask;
 mod chance;
@@ -27,6 +28,7 @@ mod question;
 mod record;
 mod refusal;
 mod reply;
+mod ring;
 mod text;
 mod verdict;
 
@@ -39,7 +41,7 @@ const USAGE: &str = "\
 usage: second compare FOLDER [--seed N] [--cases N] [--only CASE]
        second ask QUESTION ANSWER RECORD..
        second encode MACHINE TEXT RECORD
-       second large FOLDER
+       second large|tangle|circle FOLDER
 ";
 
 fn main() -> ExitCode {
@@ -64,7 +66,9 @@ fn run(words: &[OsString]) -> Result<Reply, Trouble> {
         Some("ask") => ask::run(rest),
         Some("encode") => encode::run(rest),
         Some("compare") => compare::run(rest),
-        Some("large") => large::run(rest),
+        Some("large") => large::run(large::large, rest),
+        Some("tangle") => large::run(large::tangle, rest),
+        Some("circle") => large::run(large::circle, rest),
         Some("--help") => Ok(Reply::help(USAGE)),
         _ => Err(Trouble::new(USAGE)),
     }

@@ -1,8 +1,9 @@
 //! The records of all machines together.
 
 use crate::form;
-use crate::record::{Act, MOST_MACHINES, Record};
-use crate::refusal::{Place, Refusal};
+use crate::record::{Act, MOST_MACHINES, Place, Record, acts};
+use crate::refusal::Refusal;
+use crate::ring;
 use std::collections::HashSet;
 
 pub struct Network {
@@ -17,7 +18,10 @@ impl Network {
     pub fn read<B: AsRef<[u8]>>(files: &[B]) -> Result<Self, Refusal> {
         let records = read_records(files)?;
         let letters = match_letters(&records)?;
-        Ok(Self { records, letters })
+        match ring::lowest(&records) {
+            Some(ring) => Err(Refusal::Ring(ring)),
+            None => Ok(Self { records, letters }),
+        }
     }
 
     pub fn doings(&self) -> usize {
@@ -59,14 +63,4 @@ fn match_letters(records: &[Record]) -> Result<usize, Refusal> {
         Some((place, _)) => Err(Refusal::NeverSent(place)),
         None => Ok(got.len()),
     }
-}
-
-/// All doings, by machine and then by doing.
-fn acts(records: &[Record]) -> impl Iterator<Item = (Place, Act)> {
-    records.iter().flat_map(|record| {
-        let machine = record.machine;
-        (1..)
-            .zip(&record.doings)
-            .map(move |(doing, done)| (Place { machine, doing }, done.act))
-    })
 }

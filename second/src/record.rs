@@ -33,3 +33,20 @@ pub struct Record {
     pub first: State,
     pub doings: Vec<Doing>,
 }
+
+/// A doing of a machine; doing 0 is the head of its record.
+#[derive(Clone, Copy, Debug, PartialEq, Eq, PartialOrd, Ord)]
+pub struct Place {
+    pub machine: u8,
+    pub doing: u16,
+}
+
+/// All doings, by machine and then by doing.
+pub fn acts(records: &[Record]) -> impl Iterator<Item = (Place, Act)> {
+    records.iter().flat_map(|record| {
+        let machine = record.machine;
+        (1..)
+            .zip(&record.doings)
+            .map(move |(doing, done)| (Place { machine, doing }, done.act))
+    })
+}

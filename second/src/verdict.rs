@@ -2,9 +2,10 @@
 
 use crate::network::Network;
 use crate::question::Question;
-use crate::refusal::{Place, Refusal};
+use crate::record::Place;
+use crate::refusal::Refusal;
 
-#[derive(Clone, Copy, Debug, PartialEq, Eq)]
+#[derive(Clone, Debug, PartialEq, Eq)]
 pub enum Verdict {
     Refused(Refusal),
     /// The records are fine, and the question stays open.
@@ -33,8 +34,8 @@ impl Verdict {
     pub fn fixed_lines(&self) -> String {
         match self {
             Self::Refused(refusal) => {
-                let Place { machine, doing } = refusal.place();
-                format!("refused {} at {machine} {doing}\n", refusal.number())
+                let places: String = refusal.places().iter().map(in_words).collect();
+                format!("refused {} at{places}\n", refusal.number())
             }
             Self::Undecided {
                 question,
@@ -65,17 +66,22 @@ impl Verdict {
     }
 }
 
+/// A place after a space.
+fn in_words(Place { machine, doing }: &Place) -> String {
+    format!(" {machine} {doing}")
+}
+
 #[cfg(test)]
 mod tests {
     use super::*;
 
     #[test]
     fn fixed_lines_are_to_the_letter() {
-        let refused = Verdict::Refused(Refusal::Twice(Place {
-            machine: 1,
-            doing: 20,
-        }));
+        let place = |machine, doing| Place { machine, doing };
+        let refused = Verdict::Refused(Refusal::Twice(place(1, 20)));
         assert_eq!(refused.fixed_lines(), "refused 2 at 1 20\n");
+        let ring = Verdict::Refused(Refusal::Ring(vec![place(0, 3), place(12, 500)]));
+        assert_eq!(ring.fixed_lines(), "refused 4 at 0 3 12 500\n");
         let undecided = Verdict::Undecided {
             question: Question::Least,
             machines: 3,

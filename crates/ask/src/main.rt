@@ -3,8 +3,8 @@ use cli::read_beginning;
 use cli::words;
 use cli::write_whole;
 use letters::matched::Matched;
-use letters::recorded::Recorded;
-use letters::recorded::read_recorded;
+use order::asked::Asked;
+use order::asked::order_files;
 use records::place::Place;
 use records::reading::TELLING;
 use records::refusal::Refusal;
@@ -67,32 +67,67 @@ fn tell_form(rt: &LibcRuntime, place: Place, names: &[String]) -> Result<(), Any
     Ok(())
 }
 
-fn tell_refusal(rt: &LibcRuntime, refusal: Refusal, names: &[String]) -> Result<(), AnyError> {
-    let number = refusal.number();
-    let machine = refusal.place().machine;
-    let doing = refusal.place().doing;
-    println!(rt, "refused {number} at {machine} {doing}")?;
-    match refusal {
-        Refusal::Form(place) => tell_form(rt, place, names)?,
-        Refusal::Again(_) => println!(
-            rt,
-            "Doing {doing} of machine {machine} sends a letter that was sent already, or gets one that was got already."
-        )?,
-        Refusal::Unsent(_) => println!(
-            rt,
-            "Doing {doing} of machine {machine} gets a letter that nobody sent."
-        )?,
+// A ring, doing by doing.
+fn tell_ring(rt: &LibcRuntime, ring: &[Place]) -> Result<(), AnyError> {
+    println!(
+        rt,
+        "No run can have made these records: each of these doings comes before the next, and the last before the first."
+    )?;
+    for place in ring {
+        let machine = place.machine;
+        let doing = place.doing;
+        println!(rt, "  doing {doing} of machine {machine}")?;
     }
     Ok(())
+}
+
+// What is refused, in words.
+fn tell_why(rt: &LibcRuntime, refusal: &Refusal, names: &[String]) -> Result<(), AnyError> {
+    match refusal {
+        Refusal::Form(place) => tell_form(rt, *place, names),
+        Refusal::Again(place) => {
+            let machine = place.machine;
+            let doing = place.doing;
+            println!(
+                rt,
+                "Doing {doing} of machine {machine} sends a letter that was sent already, or gets one that was got already."
+            )?;
+            Ok(())
+        }
+        Refusal::Unsent(place) => {
+            let machine = place.machine;
+            let doing = place.doing;
+            println!(
+                rt,
+                "Doing {doing} of machine {machine} gets a letter that nobody sent."
+            )?;
+            Ok(())
+        }
+        Refusal::Ring(ring) => tell_ring(rt, ring),
+    }
+}
+
+fn tell_refusal(rt: &LibcRuntime, refusal: &Refusal, names: &[String]) -> Result<(), AnyError> {
+    let number = refusal.number();
+    print!(rt, "refused {number} at")?;
+    let places = refusal.places(rt.alloc())?;
+    for place in &places {
+        let machine = place.machine;
+        let doing = place.doing;
+        print!(rt, " {machine} {doing}")?;
+    }
+    println!(rt, "")?;
+    tell_why(rt, refusal, names)
 }
 
 fn refuse(
     rt: &LibcRuntime,
     answer: &str,
-    refusal: Refusal,
+    refusal: &Refusal,
     names: &[String],
 ) -> Result<End, AnyError> {
-    if let Err(error) = write_whole(rt, answer, &refusal.bytes()) {
+    let bytes = refusal.bytes(rt.alloc())?;
+    if let Err(error) = write_whole(rt, answer, &bytes) {
         eprintln!(rt, "ask: {answer} can't be written: {error}")?;
         return Ok(End::Failed);
     }
@@ -100,15 +135,15 @@ fn refuse(
     Ok(End::Refused)
 }
 
-fn tell_undecided(rt: &LibcRuntime, question: &str, run: &Matched) -> Result<End, AnyError> {
-    let machines = run.records.len();
-    let doings = run.doings();
-    let letters = run.letters.len();
+fn tell_undecided(rt: &LibcRuntime, question: &str, matched: &Matched) -> Result<End, AnyError> {
+    let machines = matched.records.len();
+    let doings = matched.doings();
+    let letters = matched.letters.len();
     println!(rt, "{question} undecided")?;
     println!(rt, "machines {machines} doings {doings} letters {letters}")?;
     println!(
         rt,
-        "The records are in form, and each letter that was got was sent. This version does not decide questions yet; no answer was written."
+        "The records are in form, each letter that was got was sent, and no doing comes before itself. This version does not decide questions yet; no answer was written."
     )?;
     Ok(End::Undecided)
 }
@@ -117,10 +152,10 @@ fn ask(rt: &LibcRuntime, question: &str, answer: &str, names: &[String]) -> Resu
     let Some(files) = beginnings(rt, names)? else {
         return Ok(End::Failed);
     };
-    let recorded = read_recorded(rt.alloc(), &files)?;
-    match recorded {
-        Recorded::Refused(refusal) => refuse(rt, answer, refusal, names),
-        Recorded::Run(run) => tell_undecided(rt, question, &run),
+    let asked = order_files(rt.alloc(), &files)?;
+    match asked {
+        Asked::Refused(refusal) => refuse(rt, answer, &refusal, names),
+        Asked::Run { matched, .. } => tell_undecided(rt, question, &matched),
     }
 }
 

@@ -13,11 +13,12 @@ use Rattle.letters.specs.declared.recorded.Recorded.{Recorded}
 use Rattle.letters.specs.declared.recorded.Recorded.the-variants.{Run, Refused}
 use Rattle.letters.specs.Matching.{LettersOf}
 
--- rightly refused: 2 only where the files are records, 3 only where besides nothing is sent or got twice
+-- rightly refused: 2 only where the files are records, 3 only where besides nothing is sent or got twice; what comes before what is not looked at
 abbrev pub RefusedFor : List (List ℕ) → Refusal → Type 0
 RefusedFor fs (why.Form p) = NoRecords fs p
 RefusedFor fs (why.Again p) = (rs : List Record) × ReadAs fs rs × FirstPlace (Again rs) p
 RefusedFor fs (why.Unsent p) = (rs : List Record) × ReadAs fs rs × ((q : Place) → Again rs q → ⊥) × FirstPlace (Unsent rs) p
+RefusedFor fs (why.Ring v) = ⊥
 
 abbrev pub RecordedAs : List (List ℕ) → Recorded → Type 0
 RecordedAs fs (Run m) = ReadAs fs (recordsOf (vec-items (m .records))) × LettersOf (recordsOf (vec-items (m .records))) (vec-items (m .letters))

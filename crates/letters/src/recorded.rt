@@ -113,6 +113,7 @@ mod tests {
         let Recorded::Refused(refusal) = recorded else {
             return Err("not refused".into());
         };
-        check(refusal.bytes() == [78, 3, 1, 0, 1])
+        let bytes = refusal.bytes(heap)?;
+        check(bytes.as_slice() == [78, 3, 1, 0, 1])
     }
 }

@@ -3,3 +3,4 @@ mod OneMore
 mod Stuck
 mod Sizes
 mod Joins
+mod Rightly

@@ -2,3 +2,4 @@ pub mod Vectors
 pub mod Rows
 pub mod Steps
 pub mod Ordering
+pub mod Asked

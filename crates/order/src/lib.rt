@@ -1,5 +1,6 @@
 // What comes before what: vectors, or the ring that shows that no run can have made the records.
+pub mod asked;
 pub mod ordered;
-pub mod ordering;
+pub(crate) mod ordering;
 pub(crate) mod progress;
 pub(crate) mod vectors;

@@ -11,13 +11,13 @@ use std::alloc::Global;
 
 // What an ordering comes to: all doings are ordered, or some come before themselves, none of which is behind the cut.
 #[derive(Drop)]
-pub enum Ordering {
+pub(crate) enum Ordering {
     All(Ordered),
     Stuck { run: Run, cut: Counts },
 }
 
 // The vectors of a run.
-pub fn order_run(heap: Global, run: Run) -> Result<Ordering, AllocError>
+pub(crate) fn order_run(heap: Global, run: Run) -> Result<Ordering, AllocError>
     ensures { λ r. ⌜ made r (Orders run) ⌝ }
 {
     let mut rows = vec![in heap; Counts::none(); run.states.len()]?;

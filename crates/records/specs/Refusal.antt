@@ -6,6 +6,7 @@ use mathlib.Core.Bool.{Bool}
 use mathlib.Core.List.{List, [], _∷_, _++_}
 use Prim.Native.Nat.{ℕ, _+_, _<_, _≤_}
 use lib.ListN.{length, getD}
+use Rattle.std.specs.Of.Vec.{vec-items}
 use Rattle.records.specs.declared.doing.Kind.the-variants.{Neither, Sends, Gets}
 use Rattle.records.specs.declared.doing.Doing.{Doing}
 use Rattle.records.specs.declared.place.Place.{Place}
@@ -17,15 +18,24 @@ abbrev pub refusalNumber : Refusal → ℕ
 refusalNumber (why.Form p) = 1
 refusalNumber (why.Again p) = 2
 refusalNumber (why.Unsent p) = 3
+refusalNumber (why.Ring v) = 4
 
-abbrev pub refusalPlace : Refusal → Place
-refusalPlace (why.Form p) = p
-refusalPlace (why.Again p) = p
-refusalPlace (why.Unsent p) = p
+abbrev pub refusalPlaces : Refusal → List Place
+refusalPlaces (why.Form p) = p ∷ []
+refusalPlaces (why.Again p) = p ∷ []
+refusalPlaces (why.Unsent p) = p ∷ []
+refusalPlaces (why.Ring v) = vec-items v
+
+abbrev pub placeBytes : Place → List ℕ
+placeBytes p = p .machine ∷ bytes2 (p .doing)
+
+abbrev pub placesBytes : List Place → List ℕ
+placesBytes [] = []
+placesBytes (p ∷ ps) = placeBytes p ++ placesBytes ps
 
 -- 78, the number, machine and doing of where
 abbrev pub refusalBytes : Refusal → List ℕ
-refusalBytes n = 78 ∷ (refusalNumber n ∷ (refusalPlace n .machine ∷ bytes2 (refusalPlace n .doing)))
+refusalBytes n = 78 ∷ (refusalNumber n ∷ placesBytes (refusalPlaces n))
 
 -- places go by machine, then doing
 abbrev pub Earlier : Place → Place → Type 0

@@ -2,6 +2,7 @@
 
 mod asks;
 mod encodes;
+mod rings;
 
 use super::case::Case;
 
@@ -12,6 +13,7 @@ const EARLIER: &[u8] = &[0xee; 64];
 /// and with one.
 pub fn cases() -> Vec<Case> {
     let mut cases = asks::cases();
+    cases.extend(rings::cases());
     cases.extend(encodes::cases());
     let with_earlier: Vec<Case> = cases
         .iter()

@@ -8,8 +8,8 @@ use crate::compare::fields::{
 use crate::form::{self, DOING};
 use crate::question::Question;
 use crate::record::Act::{self, Gets as G, Neither as N, Sends as S};
-use crate::record::{Doing, Record, State};
-use crate::refusal::{Place, Refusal};
+use crate::record::{Doing, Place, Record, State};
+use crate::refusal::Refusal;
 use crate::verdict::Verdict;
 
 /// Bytes put over those of a file, from a place in it on.
@@ -107,10 +107,13 @@ const DOINGS: &[Row] = &[
 #[rustfmt::skip]
 const LETTERS: &[Row] = &[
     ("a machine's own letter", PAIR, &[], fine(1, 2, 1)),
-    ("a machine's own letter, got before it is sent", &[&[G(7), S(7)]], &[], fine(1, 2, 1)),
     ("a letter got by a later machine", &[&[S(7)], &[G(7)]], &[], fine(2, 2, 1)),
     ("a letter got by an earlier machine", &[&[G(7)], &[S(7)]], &[], fine(2, 2, 1)),
-    ("a ring of two letters", &[&[G(8), S(7)], &[G(7), S(8)]], &[], fine(2, 4, 2)),
+    ("a machine's own letter, got three doings later", &[&[S(7), N, N, G(7)]], &[], fine(1, 4, 1)),
+    ("two letters that cross", &[&[S(1), G(2)], &[S(2), G(1)]], &[], fine(2, 4, 2)),
+    ("a letter and the reply", &[&[S(1), G(2)], &[G(1), S(2)]], &[], fine(2, 4, 2)),
+    ("a later letter got earlier", &[&[S(1), S(2)], &[G(2), G(1)]], &[], fine(2, 4, 2)),
+    ("two ways from one doing to another", &[&[S(1), S(2)], &[G(1), G(2)]], &[], fine(2, 4, 2)),
     ("a letter never got", &[&[S(7)]], &[], fine(1, 1, 0)),
     ("two letters, one of them never got", &[&[S(7), S(8)], &[N, G(8), N]], &[], fine(2, 5, 1)),
     ("the largest letter", &[&[S(u32::MAX)], &[G(u32::MAX)]], &[], fine(2, 2, 1)),
@@ -134,6 +137,15 @@ const LETTERS: &[Row] = &[
     ("a 2 before a 1", &[&[S(7), S(7)], &[N]], &[(1, at(1, KIND), &[3])], refused(1, 1, 1)),
     ("a 2 before a 1 in one machine", &[&[S(7), S(7), N]], &[(0, COUNT, &[0, 2])], refused(1, 0, 2)),
     ("a 3 before a 1", &[&[G(7)], &[]], &[(1, COUNT, &[0, 1])], refused(1, 1, 1)),
+    ("a ring before a 3", &[&[G(7), S(7), G(9)]], &[], refused(3, 0, 3)),
+    ("a ring around a 3", &[&[G(7), G(9), S(7)]], &[], refused(3, 0, 2)),
+    ("a ring before a 2", &[&[G(7), S(7)], &[S(8), S(8)]], &[], refused(2, 1, 2)),
+    ("a ring whose letter is sent twice", &[&[G(7), S(7), S(7)]], &[], refused(2, 0, 3)),
+    ("a ring whose letter is got twice", &[&[G(7), S(7)], &[G(7)]], &[], refused(2, 1, 1)),
+    ("a ring before a 1", &[&[G(7), S(7)], &[N]], &[(1, at(1, KIND), &[3])], refused(1, 1, 1)),
+    ("a ring cut by a count of 1", &[&[G(7), S(7)]], &[(0, COUNT, &[0, 1])], refused(1, 0, 1)),
+    ("a ring, a 3 and a 2", &[&[G(7), S(7)], &[G(9)], &[S(8), S(8)]], &[], refused(2, 2, 2)),
+    ("a ring, a 3, a 2 and a 1", &[&[G(7), S(7), G(9), S(8), S(8)], &[]], &[(1, 0, &[0])], refused(1, 1, 0)),
     ("a 3, a 2 and a 1", &[&[G(9)], &[S(7), S(7)], &[]], &[(2, 0, &[0])], refused(1, 2, 0)),
 ];
 
@@ -181,12 +193,12 @@ pub fn cases() -> Vec<Case> {
     cases
 }
 
-fn may(what: &str, records: Vec<Vec<u8>>, verdict: Verdict) -> Case {
+pub fn may(what: &str, records: Vec<Vec<u8>>, verdict: Verdict) -> Case {
     Case::ask(what, "may", records, verdict)
 }
 
 /// The records of machines that do this, with the same state throughout.
-fn records<A: AsRef<[Act]>>(machines: &[A]) -> Vec<Vec<u8>> {
+pub fn records<A: AsRef<[Act]>>(machines: &[A]) -> Vec<Vec<u8>> {
     let state = State {
         sign: true,
         amount: 5,
