@@ -22,6 +22,8 @@ demo: build
 	@target/bin/ask may target/demo.answer examples/valves/station*.rec || true
 	@echo; echo '$$ ask may target/demo.answer examples/astray/station*.rec'
 	@target/bin/ask may target/demo.answer examples/astray/station*.rec || true
+	@echo; echo '$$ ask may target/demo.answer examples/crossed/station*.rec'
+	@target/bin/ask may target/demo.answer examples/crossed/station*.rec || true
 
 examples:
 	examples/encode-all
