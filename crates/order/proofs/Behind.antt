@@ -1,14 +1,11 @@
 -- What comes before doings that are behind a moment.
-use mathlib.Core.Path.{_≡_, refl, sym, subst, ap}
+use mathlib.Core.Path.{refl, sym, subst, ap}
 use mathlib.Core.Logic.{_⊎_, inl, inr, ⊎-elim}
-use mathlib.Core.List.{List·Memᴰ}
-use Prim.Native.Nat.{ℕ, zero, suc, _+_, _<_, _≤_, max}
+use Prim.Native.Nat.{ℕ, _<_, _≤_}
 use native.Mathlib.Omega.{arith}
 use Rattle.std.proofs.shelf.Tests.{cases-lt}
-use Rattle.letters.specs.declared.letter.Letter.{Letter}
-use Rattle.runs.specs.Run.{Run, Sound, Before, own, letter, through}
+use Rattle.runs.specs.Run.{Run, Before, own, letter, through}
 use Rattle.runs.specs.Moment.{Moment, Cut}
-use Rattle.order.specs.Vectors.{Vectors}
 use Rattle.order.specs.Steps.{UpTo}
 
 -- what comes before a doing that is behind a moment is behind it

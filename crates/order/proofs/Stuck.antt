@@ -1,20 +1,20 @@
 -- Where no machine can go on and one isn't at its end, some doing comes before itself.
 use mathlib.Core.Path.{_≡_, refl, sym, subst, ap, _∙_}
 use mathlib.Core.Logic.{_⊎_, inl, inr, ⊎-elim}
-use mathlib.Core.Bool.{Bool, true, false, cond}
-use Prim.Native.Nat.{ℕ, zero, suc, _+_, _<_, _≤_}
+use mathlib.Core.Bool.{cond}
+use Prim.Native.Nat.{ℕ, zero, suc, _+_, _<_}
 use native.Mathlib.Omega.{arith}
 use lib.Dec.{eqb}
 use Rattle.std.proofs.shelf.Tests.{cases-lt, cases-eq, cases-bool, eqb-true, eqb-false}
 use Rattle.std.specs.declared.option.Option.{Option}
 use Rattle.std.specs.declared.option.Option.the-variants.{Some, None}
 use Rattle.records.specs.declared.place.Place.{Place}
-use Rattle.runs.specs.Run.{Run, Before, own, letter, through}
+use Rattle.runs.specs.Run.{Run, Before, letter, through}
 use Rattle.runs.specs.Moment.{Cut}
 use Rattle.order.specs.Steps.{UpTo}
-use Rattle.runs.proofs.Linked.{Linked, Sending, cameFrom}
+use Rattle.runs.proofs.Linked.{Linked, Sending}
 use Rattle.order.specs.Steps.{Ready, Waits}
-use Rattle.order.proofs.Behind.{upto-trans, upto-own}
+use Rattle.order.proofs.Behind.{upto-own}
 
 -- the last of a list's values is among the others, or is not
 look : (g : ℕ → ℕ) (x n : ℕ) → ((k : ℕ) × (k < n) × (g k ≡ x)) ⊎ ((k : ℕ) → k < n → g k ≡ x → ⊥)

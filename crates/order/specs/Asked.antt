@@ -1,6 +1,5 @@
 -- What files come to: an ordered run, or the refusal of the lowest number.
 -- Assumes nothing.
-use mathlib.Core.Path.{_≡_}
 use mathlib.Core.List.{List}
 use Prim.Native.Nat.{ℕ}
 use Rattle.std.specs.Of.Vec.{vec-items}

@@ -1,4 +1,5 @@
 pub mod Vectors
+pub mod Turns
 pub mod Rows
 pub mod Steps
 pub mod Ordering

@@ -12,13 +12,15 @@ use Rattle.order.specs.declared.ordering.Ordering.{Ordering}
 use Rattle.order.specs.declared.ordering.Ordering.the-variants.{All, Stuck}
 use Rattle.order.specs.Vectors.{Vectors, VectorsOf}
 use Rattle.order.specs.Rows.{vectorsIn}
+use Rattle.order.specs.Turns.{Topological}
 
 abbrev pub vectorsOf : Ordered → Vectors
 vectorsOf o = vectorsIn (o .run) (vec-items (o .rows))
 
--- nothing comes before itself, the vectors say what comes before what, and for each letter as many pairs were joined as there are machines
+-- nothing comes before itself, the turns are a topological order, the vectors say what comes before what, and for each letter as many pairs were joined as there are machines
 pub record InOrder (o : Ordered) : Type 0 where
   pub sound : Sound (runOf (o .run))
+  pub turns : Topological (runOf (o .run)) (vec-items (o .turns))
   pub vectors : VectorsOf (runOf (o .run)) (vectorsOf o)
   pub joined : o .pairs ≡ o .run .count * length (runOf (o .run) .letters)
 

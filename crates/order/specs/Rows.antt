@@ -1,8 +1,8 @@
 -- What rows of counts in memory mean.
 -- Assumes nothing.
-use mathlib.Core.List.{List, []}
-use mathlib.Core.Path.{_≡_, refl}
-use Prim.Native.Nat.{ℕ, _+_}
+use mathlib.Core.List.{List}
+use mathlib.Core.Path.{refl}
+use Prim.Native.Nat.{ℕ}
 use lib.ListN.{getD, replicate}
 use Rattle.runs.specs.declared.counts.Counts.{Counts}
 use Rattle.runs.specs.declared.run.Run.{Run}

@@ -16,6 +16,7 @@ use Rattle.runs.specs.Model.{countsOf, sendingOf, lettersIn, runOf}
 use Rattle.order.specs.declared.progress.Progress.{Progress}
 use Rattle.order.specs.Rows.{vectorsIn}
 use Rattle.order.specs.Vectors.{Vectors}
+use Rattle.order.specs.Turns.{turnsOf, InTurn}
 
 -- one doing comes before another, or is it
 abbrev pub UpTo : Run → (i k j m : ℕ) → Type 0
@@ -65,3 +66,14 @@ pub record Stepped (r : code.Run) (rows : List Counts) (cut : Counts) (j : ℕ) 
   pub one : countsOf (p .cut) j ≡ countsOf cut j + 1
   pub others : (k : ℕ) → (k ≡ j → ⊥) → countsOf (p .cut) k ≡ countsOf cut k
   pub joined : p .pairs ≡ joinedBehind r (countsOf (p .cut))
+
+-- the turns so far led to the cut
+abbrev pub LedTo : Run → List ℕ → Cut → Type 0
+LedTo r js c = InTurn r js × ((i : ℕ) → turnsOf js i ≡ c i)
+
+-- as many doings as can be are ordered
+pub record Filled (r : code.Run) (rows : List Counts) (js : List ℕ) (p : Progress) : Type 0 where
+  pub done : Done (runOf r) (vectorsIn r rows) (countsOf (p .cut))
+  pub joined : p .pairs ≡ joinedBehind r (countsOf (p .cut))
+  pub turns : LedTo (runOf r) js (countsOf (p .cut))
+  pub waits : (j : ℕ) → j < r .count → Waits (runOf r) (sendingOf r) (countsOf (p .cut)) j

@@ -21,7 +21,8 @@ pub(crate) fn order_run(heap: Global, run: Run) -> Result<Ordering, AllocError>
     ensures { λ r. ⌜ made r (Orders run) ⌝ }
 {
     let mut rows = vec![in heap; Counts::none(); run.states.len()]?;
-    let progress = fill(&run, &mut rows);
+    let mut turns = Vec::new(heap);
+    let progress = fill(&run, &mut rows, &mut turns)?;
     match behind(&run, progress.cut) {
         Some(_) => Ok(Ordering::Stuck {
             run,
@@ -29,6 +30,7 @@ pub(crate) fn order_run(heap: Global, run: Run) -> Result<Ordering, AllocError>
         }),
         None => Ok(Ordering::All(Ordered {
             run,
+            turns,
             rows,
             pairs: progress.pairs,
         })),

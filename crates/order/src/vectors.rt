@@ -2,14 +2,17 @@
 ghost use lib.ListN.{getD, length};
 ghost use mathlib.Core.Path.{_≡_};
 ghost use Prim.Native.Nat.{ℕ, _+_, _<_, _≤_};
-ghost use Rattle.std.specs.Of.Vec.{vec-len};
+ghost use mathlib.Core.List.{[]};
+ghost use Rattle.std.specs.Of.Vec.{vec-len, vec-items};
+ghost use Rattle.std.specs.Vec.{made};
 ghost use Rattle.std.specs.Options.{Cases};
 ghost use Rattle.runs.specs.Model.{runOf, sendingOf, countsOf};
 ghost use Rattle.order.specs.Rows.{vectorsIn, rowsIn};
-ghost use Rattle.order.specs.Steps.{Ready, Follows, Done, Waits, Stepped, joinedFor, joinedBehind};
+ghost use Rattle.order.specs.Steps.{Ready, Follows, Done, Waits, Stepped, Filled, joinedFor, joinedBehind};
 use crate::progress::Progress;
 use runs::counts::Counts;
 use runs::run::Run;
+use std::alloc::AllocError;
 
 // The row of a machine after so many doings.
 fn row_at(run: &Run, rows: &[Counts], machine: usize, done: u16) -> Counts
@@ -72,12 +75,15 @@ fn step(run: &Run, rows: &mut [Counts], so_far: Progress, machine: usize) -> Opt
 }
 
 // Orders doings one after the other, as far as it goes: no machine can go on from there.
-pub(crate) fn fill(run: &Run, rows: &mut [Counts]) -> Progress
+pub(crate) fn fill(
+    run: &Run,
+    rows: &mut [Counts],
+    turns: &mut Vec<u8>,
+) -> Result<Progress, AllocError>
     requires long { ⌜ length (now rows) ≡ vec-len (now run .states) ⌝ }
     requires blank { ⌜ ((j i : ℕ) → j < now run .count → vectorsIn (now run) (now rows) j 0 i ≡ 0) ⌝ }
-    ensures done { λ r. ⌜ Done (runOf (now (run .entry))) (vectorsIn (now (run .entry)) (now (rows .exit))) (countsOf (r .cut)) ⌝ }
-    ensures joined { λ r. ⌜ r .pairs ≡ joinedBehind (now (run .entry)) (countsOf (r .cut)) ⌝ }
-    ensures waits { λ r. ⌜ ((j : ℕ) → j < now (run .entry) .count → Waits (runOf (now (run .entry))) (sendingOf (now (run .entry))) (countsOf (r .cut)) j) ⌝ }
+    requires empty { ⌜ vec-items (now turns) ≡ [] ⌝ }
+    ensures { λ r. ⌜ made r (Filled (now (run .entry)) (now (rows .exit)) (vec-items (now (turns .exit)))) ⌝ }
 {
     let mut so_far = Progress {
         cut: Counts::none(),
@@ -86,11 +92,12 @@ pub(crate) fn fill(run: &Run, rows: &mut [Counts]) -> Progress
     'anew: loop {
         for machine in 0..run.count {
             if let Some(further) = step(run, rows, so_far, machine) {
+                turns.push(machine as u8)?;
                 so_far = further;
                 continue 'anew;
             }
         }
-        return so_far;
+        return Ok(so_far);
     }
 }
 

@@ -1,18 +1,17 @@
 -- Doings as numbers in the order of their places, and the lowest ring from what the search among numbers found.
 use mathlib.Core.Path.{_≡_, refl, sym, subst, ap, _∙_}
-use mathlib.Core.Logic.{_⊎_, inl, inr}
-use mathlib.Core.List.{List, [], _∷_, _++_, map}
-use Prim.Native.Nat.{ℕ, zero, suc, _+_, _<_, _≤_}
+use mathlib.Core.Logic.{inl, inr}
+use mathlib.Core.List.{List, [], _∷_, map}
+use Prim.Native.Nat.{ℕ, _+_, _<_, _≤_}
 use native.Mathlib.Omega.{arith}
 use lib.ListN.{length, length-map}
 use Rattle.records.specs.declared.place.Place.{Place}
-use Rattle.records.specs.Refusal.{Earlier}
 use Rattle.runs.specs.Run.{Run, Before}
 use Rattle.rings.specs.Ring.{Step, Steps, Ring, NoLater, LowestRing}
 use Rattle.runs.specs.Run.{Done as Inside}
 use Rattle.rings.specs.RingSearch.{Done, Flat, Edge, Walk, Round, AtLeast, Found}
 use Rattle.rings.proofs.Decided.{leOrLt}
-use Rattle.rings.proofs.RingBefore.{toSteps, toRound, ringByBefore}
+use Rattle.rings.proofs.RingBefore.{toRound, ringByBefore}
 use Rattle.rings.proofs.Done.{done-step, done-first}
 use Rattle.rings.proofs.Table.{Lower, greedy-walk, found-fewest, found-lowest}
 use Rattle.rings.proofs.Pigeons.{Below, none-within}

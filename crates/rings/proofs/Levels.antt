@@ -2,14 +2,14 @@
 use mathlib.Core.Path.{_≡_, refl, sym, subst, ap, _∙_}
 use mathlib.Core.Logic.{_⊎_, inl, inr}
 use mathlib.Core.Bool.{Bool, true, false}
-use mathlib.Core.List.{List, [], _∷_, _++_, List·Memᴰ, List·Memᴰ·head, List·Memᴰ·tail}
+use mathlib.Core.List.{List, [], _∷_, List·Memᴰ, List·Memᴰ·head, List·Memᴰ·tail}
 use Prim.Native.Nat.{ℕ, zero, suc, _+_, _-_, _<_, _≤_}
 use native.Mathlib.Decide.{ℕ-discrete}
 use native.Mathlib.Omega.{arith}
 use lib.ListN.{length, getD, set, length-set, List·getD-eq-default}
 use Rattle.std.proofs.shelf.Lists.{getD-default, getD-set-same, getD-set-other}
-use Rattle.rings.specs.RingSearch.{Level, Raised, Raising}
-use Rattle.rings.specs.Links.{In, far, Marked, Maybe, Into, Fit, Frontier}
+use Rattle.rings.specs.RingSearch.{Level, Raising}
+use Rattle.rings.specs.Links.{In, far, Marked, Maybe, Into, Frontier}
 use Rattle.rings.proofs.Decided.{leOrLt}
 use Rattle.rings.proofs.Search.{level-next}
 use Rattle.rings.proofs.Raising.{raising-none, raising-seen, raising-set, raising-more, raising-all, raising-said}

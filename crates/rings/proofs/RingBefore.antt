@@ -1,12 +1,10 @@
 -- Some doing comes before itself exactly if there is a ring.
-use mathlib.Core.Path.{_≡_, refl, sym, subst}
-use mathlib.Core.Logic.{_⊎_, inl, inr}
+use mathlib.Core.Path.{_≡_, sym, subst}
 use mathlib.Core.List.{List, [], _∷_, _++_}
 use Prim.Native.Nat.{ℕ, zero, suc, _+_, _<_, _≤_}
 use native.Mathlib.Decide.{ℕ-discrete}
 use native.Mathlib.Omega.{arith}
 use Rattle.records.specs.declared.place.Place.{Place}
-use Rattle.letters.specs.declared.letter.Letter.{Letter}
 use Rattle.runs.specs.Run.{Run, Before}
 use Rattle.rings.specs.Ring.{Step, Steps, Ring, RingByBefore}
 use Rattle.rings.specs.RingSearch.{Walk, Round}

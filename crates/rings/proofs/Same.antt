@@ -1,24 +1,20 @@
 -- The arrays say just the run's steps.
 use mathlib.Core.Path.{_≡_, refl, sym, ap, subst, _∙_}
-use mathlib.Core.Bool.{Bool, true, false}
+use mathlib.Core.Bool.{Bool}
 use mathlib.Core.Logic.{_⊎_, inl, inr, ⊎-elim}
-use mathlib.Core.List.{List, [], _∷_, List·Memᴰ}
-use Prim.Native.Nat.{ℕ, zero, suc, _+_, _-_, _<_, _≤_}
+use mathlib.Core.List.{List, [], _∷_}
+use Prim.Native.Nat.{ℕ, zero, suc, _+_, _-_, _<_}
 use native.Mathlib.Omega.{arith}
-use lib.Dec.{ltb}
 use lib.ListN.{length, getD}
 use Rattle.std.proofs.shelf.Tests.{ltb-true, lt-ltb}
 use Rattle.std.specs.declared.option.Option.{Option}
 use Rattle.std.specs.declared.option.Option.the-variants.{Some, None}
 use Rattle.records.specs.declared.place.Place.{Place}
-use Rattle.records.specs.Refusal.{Earlier}
-use Rattle.letters.specs.declared.letter.Letter.{Letter}
 use Rattle.runs.specs.declared.counts.Counts.{Counts}
 use Rattle.runs.specs.declared.run.Run as code
 use Rattle.runs.specs.Model.{countsOf, sendingOf, runOf}
 use Rattle.runs.proofs.Linked.{linked, cameFrom}
-use Rattle.rings.specs.Ring.{Step}
-use Rattle.rings.specs.RingSearch.{Flat, Edge, Walk, From, AtLeast, Table, Greedy, Found}
+use Rattle.rings.specs.RingSearch.{Edge, Walk, AtLeast, Greedy, Found}
 use Rattle.rings.specs.Links.{In}
 use Rattle.rings.specs.Lowest.{AllBelow}
 use Rattle.rings.specs.Numbers.{at, Numbered, placeOf, numberOf, LinkedTo}

@@ -1,5 +1,5 @@
 -- The steps of the search among numbers: one breadth-first table by levels, the starts one after another, and the way along the table.
-use mathlib.Core.Path.{_≡_, refl, sym, subst, ap, _∙_}
+use mathlib.Core.Path.{_≡_, refl, sym, subst, _∙_}
 use mathlib.Core.Logic.{_⊎_, inl, inr}
 use mathlib.Core.List.{List, [], _∷_, _++_, append-nil, append-assoc}
 use Prim.Native.Nat.{ℕ, zero, suc, _+_, _<_, _≤_}
@@ -8,7 +8,7 @@ use native.Mathlib.Omega.{arith}
 use lib.ListN.{length}
 use Rattle.rings.specs.RingSearch.{Walk, From, AtLeast, Table, Attained, Exact, Level, Raised, Best, Greedy, Toward, Found}
 use Rattle.rings.proofs.Decided.{leOrLt}
-use Rattle.rings.proofs.Table.{table-under, table-least}
+use Rattle.rings.proofs.Table.{table-under}
 
 module _ (E : ℕ → ℕ → Type 0) where
   -- the first level: those with a step to s

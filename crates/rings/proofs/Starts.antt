@@ -1,15 +1,14 @@
 -- One start after another.
-use mathlib.Core.Path.{_≡_, refl, sym, ap, subst, _∙_}
+use mathlib.Core.Path.{_≡_, sym, subst}
 use mathlib.Core.Bool.{Bool}
 use mathlib.Core.Logic.{_⊎_, inl, inr, ⊎-elim}
-use mathlib.Core.List.{List, [], _∷_}
+use mathlib.Core.List.{List}
 use Prim.Native.Nat.{ℕ, _+_, _-_, _<_, _≤_}
 use native.Mathlib.Omega.{arith}
 use lib.ListN.{length, getD}
-use Rattle.std.specs.Of.Vec.{vec-items}
 use Rattle.rings.specs.declared.finding.Best as best
-use Rattle.rings.specs.RingSearch.{Walk, From, AtLeast, Table, Exact, Best, Greedy, Found}
-use Rattle.rings.specs.Links.{In, far}
+use Rattle.rings.specs.RingSearch.{Walk, From, AtLeast, Exact, Best, Greedy, Found}
+use Rattle.rings.specs.Links.{In}
 use Rattle.rings.specs.Shortest.{Shortest}
 use Rattle.rings.proofs.Table.{table-least, never-entered}
 use Rattle.rings.proofs.Search.{best-none, best-pass, best-take, exact-walk, best-again, best-found}

@@ -1,14 +1,14 @@
 -- The lowest ring among numbers, from tables of distances: what a program that searches for it has to have.
 -- E v w: there is a step from v to w. Numbers stand for places, in their order.
-use mathlib.Core.Path.{_≡_, refl, sym, subst, ap, _∙_}
+use mathlib.Core.Path.{_≡_, refl, sym, subst}
 use mathlib.Core.Logic.{_⊎_, inl, inr}
-use mathlib.Core.List.{List, [], _∷_, _++_, append-nil, append-assoc, List·Memᴰ, List·Memᴰ·head, List·Memᴰ·tail, List·Memᴰ·cases-cons}
-use Prim.Native.Nat.{ℕ, zero, suc, _+_, _<_, _≤_}
+use mathlib.Core.List.{List, [], _∷_, List·Memᴰ, List·Memᴰ·head, List·Memᴰ·tail, List·Memᴰ·cases-cons}
+use Prim.Native.Nat.{ℕ, _+_, _<_, _≤_}
 use native.Mathlib.Decide.{ℕ-discrete}
 use native.Mathlib.Omega.{arith}
-use lib.ListN.{length, length-append}
+use lib.ListN.{length}
 use Rattle.rings.specs.RingSearch.{Walk, Round, From, AtLeast, Table, Greedy, Found}
-use Rattle.rings.proofs.Walk.{Turned, turned}
+use Rattle.rings.proofs.Walk.{turned}
 
 -- the place from which a walk comes back
 pub last : {A : Type 0} (E : A → A → Type 0) (p : A) (ps : List A) (back : A) → Walk E p ps back → (v : A) × List·Memᴰ v (p ∷ ps) × E v back

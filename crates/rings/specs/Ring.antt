@@ -1,9 +1,8 @@
 -- Rings: doings each of which comes right before the next, and the last before the first (cycles of happened-before).
 -- Assumes nothing.
 use mathlib.Core.Path.{_≡_}
-use mathlib.Core.Logic.{_⊎_}
 use mathlib.Core.List.{List, [], _∷_, List·Memᴰ}
-use Prim.Native.Nat.{ℕ, zero, suc, _+_, _<_, _≤_}
+use Prim.Native.Nat.{ℕ, _+_, _≤_}
 use lib.ListN.{length}
 use Rattle.records.specs.declared.place.Place.{Place}
 use Rattle.records.specs.Refusal.{Earlier}

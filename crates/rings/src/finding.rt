@@ -2,7 +2,6 @@
 ghost use lib.ListN.{length};
 ghost use mathlib.Core.Path.{_≡_};
 ghost use Prim.Native.Nat.{_+_, _<_, _≤_};
-ghost use Rattle.std.specs.Of.Vec.{vec-items};
 ghost use Rattle.std.specs.Vec.{made};
 ghost use Rattle.rings.specs.Links.{In};
 ghost use Rattle.rings.specs.Shortest.{Shortest, FoundRing, Searched};

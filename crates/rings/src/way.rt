@@ -1,9 +1,8 @@
 // The lowest way back to a start along its distances.
 ghost use lib.Dec.{T};
 ghost use lib.ListN.{length};
-ghost use mathlib.Core.List.{List, [], _++_};
 ghost use mathlib.Core.Path.{_≡_};
-ghost use Prim.Native.Nat.{ℕ, _+_, _<_, _≤_};
+ghost use Prim.Native.Nat.{_+_, _<_};
 ghost use Rattle.std.specs.Of.Vec.{vec-items};
 ghost use Rattle.std.specs.Vec.{made};
 ghost use Rattle.rings.specs.RingSearch.{Exact, Greedy};

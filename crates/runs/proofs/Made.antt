@@ -1,12 +1,11 @@
 -- The run that records make.
 use mathlib.Core.Path.{_≡_, refl, sym, subst, ap, _∙_}
 use mathlib.Core.Bool.{Bool, true, _&&_}
-use mathlib.Core.Logic.{_⊎_, inl, inr, ⊎-elim}
+use mathlib.Core.Logic.{_⊎_, ⊎-elim}
 use mathlib.Core.List.{List, [], _∷_, _++_, List·Memᴰ}
 use Prim.Native.Nat.{ℕ, zero, suc, _+_, _<_, _≤_}
 use native.Mathlib.Omega.{arith}
 use native.Mathlib.Nat.{add-assoc}
-use lib.Dec.{ltb, leb}
 use lib.ListN.{length, getD, take, length-append}
 use Rattle.std.proofs.shelf.Lists.{length-map, refilled-is, take-all, getD-past, getD-append-left, getD-append-add}
 use Rattle.std.proofs.shelf.Tests.{cases-lt, lt-ltb, le-leb}
@@ -16,22 +15,20 @@ use Rattle.std.specs.declared.vec.Vec.{Vec}
 use Rattle.std.specs.declared.alloc.Global.{Global}
 use Rattle.std.specs.declared.option.Option.{Option}
 use Rattle.std.specs.declared.option.Option.the-variants.{Some, None}
-use Rattle.records.specs.declared.doing.Kind.the-variants.{Neither, Sends, Gets}
+use Rattle.records.specs.declared.doing.Kind.the-variants.{Sends, Gets}
 use Rattle.records.specs.declared.doing.Doing.{Doing}
 use Rattle.records.specs.declared.place.Place.{Place}
 use Rattle.records.specs.declared.record.Record as given
-use Rattle.records.specs.Record.{Record, recordOf, recordsOf, none, machineOf, didOf, kindOf, signIn, amountIn, signOf, amountOf}
-use Rattle.records.specs.Refusal.{Earlier}
+use Rattle.records.specs.Record.{Record, recordOf, recordsOf, none, machineOf, didOf, kindOf, signIn, amountIn}
 use Rattle.letters.specs.declared.letter.Letter.{Letter}
 use Rattle.letters.specs.Noting.{Few}
-use Rattle.letters.specs.Matching.{gotAt, LettersOf}
+use Rattle.letters.specs.Matching.{LettersOf}
 use Rattle.letters.proofs.Machines.{within}
 use Rattle.runs.specs.declared.counts.Counts.{Counts}
 use Rattle.runs.specs.declared.state.State.{State}
 use Rattle.runs.specs.declared.run.Run as code
 use Rattle.runs.specs.Shape as shape
 use Rattle.runs.specs.Shape.{still, index, sentWithin, Inside, Apart, Sent}
-use Rattle.runs.specs.Run.{Makes}
 use Rattle.runs.specs.Model.{runOf, sendingOf, stateOf, RunOf}
 use Rattle.runs.specs.Making.{stateAfter, statesAfter, statesOf, allStates, Laid, Within, gotIndex, linked}
 use Rattle.runs.proofs.Places.{same-index}

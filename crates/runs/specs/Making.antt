@@ -6,7 +6,6 @@ use Prim.Native.Nat.{ℕ, _+_, _<_, _≤_}
 use lib.ListN.{length, getD, take, set}
 use Rattle.std.specs.declared.option.Option.the-variants.{Some, None}
 use Rattle.records.specs.declared.doing.Doing.{Doing}
-use Rattle.records.specs.declared.place.Place.{Place}
 use Rattle.records.specs.Record.{Record, didOf}
 use Rattle.letters.specs.declared.letter.Letter.{Letter}
 use Rattle.runs.specs.declared.counts.Counts.{Counts}

@@ -1,4 +1,4 @@
-use mathlib.Core.Path.{refl, sym}
+use mathlib.Core.Path.{refl}
 use Rattle.records.specs.Reading.{filesOf}
 use Rattle.order.proofs.Rightly.{at-arm, refused, in-order, some-ring, has-ring}
 use Rattle.order.proofs.asked.order_files.Needs as need

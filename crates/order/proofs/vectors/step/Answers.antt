@@ -1,18 +1,14 @@
 use mathlib.Core.Path.{_≡_, refl, ap, _∙_}
-use Prim.Native.Nat.{_+_, _<_, _≤_}
+use Prim.Native.Nat.{_<_, _≤_}
 use native.Mathlib.Omega.{arith}
 use lib.ListN.{getD, length, set}
 use Rattle.std.proofs.shelf.Lists.{getD-set-same, getD-set-other}
-use Rattle.std.specs.declared.option.Option.{Option}
-use Rattle.std.specs.declared.option.Option.the-variants.{Some, None}
-use Rattle.records.specs.declared.place.Place.{Place}
 use Rattle.runs.specs.declared.counts.Counts.{Counts}
-use Rattle.runs.specs.Model.{runOf, sendingOf, countsOf}
+use Rattle.runs.specs.Model.{sendingOf, countsOf}
 use Rattle.runs.specs.Shape.{index}
 use Rattle.runs.proofs.Places.{same-index, set-here, set-rest}
 use Rattle.runs.proofs.Linked.{linked}
 use Rattle.order.specs.Rows.{vectorsIn, none}
-use Rattle.order.specs.Steps.{joinedFor}
 use Rattle.order.proofs.OneMore.{done-next}
 use Rattle.order.proofs.Joins.{joined-more, joined-few, for-few}
 use Rattle.order.proofs.vectors.step.Needs as need

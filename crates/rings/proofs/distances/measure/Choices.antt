@@ -1,6 +1,4 @@
-use mathlib.Core.Path.{_≡_}
 use Prim.Native.Nat.{_-_, _<_, _≤_}
-use lib.ListN.{length}
 use Rattle.std.specs.Of.Vec.{vec-items}
 use Rattle.rings.specs.RingSearch.{Level}
 use Rattle.rings.specs.Links.{In, far, Frontier}

@@ -1,6 +1,6 @@
 use mathlib.Core.Logic.{⊎-elim}
 use native.Mathlib.Omega.{arith}
-use lib.ListN.{length, getD}
+use lib.ListN.{getD}
 use Rattle.std.proofs.shelf.Lists.{getD-default}
 use Rattle.rings.specs.Links.{far}
 use Rattle.rings.proofs.Starts.{pass-unentered, pass-one, pass-far, take-it}

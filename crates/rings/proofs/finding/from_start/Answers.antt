@@ -1,6 +1,5 @@
 use native.Mathlib.Omega.{arith}
 use Prim.Native.Nat.{_+_}
-use lib.ListN.{length}
 use Rattle.std.specs.Of.Vec.{vec-items}
 use Rattle.rings.specs.Links.{far}
 use Rattle.rings.proofs.Starts.{some-fewest, start-within, distance-is, found}

@@ -1,10 +1,9 @@
 use mathlib.Core.List.{List, [], _∷_, _++_, map}
-use mathlib.Core.Path.{_≡_, sym, ap, _∙_}
+use mathlib.Core.Path.{sym, ap, _∙_}
 use Prim.Native.Nat.{ℕ}
 use native.Mathlib.Omega.{arith}
-use lib.ListN.{take, getD}
+use lib.ListN.{take}
 use Rattle.std.proofs.shelf.Lists.{map-more, take-all}
-use Rattle.std.specs.Of.Vec.{vec-items}
 use Rattle.records.specs.declared.place.Place.{Place}
 use Rattle.rings.specs.Numbers.{placeOf}
 use Rattle.rings.proofs.ring.places_of.Needs as need

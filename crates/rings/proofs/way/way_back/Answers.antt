@@ -1,8 +1,7 @@
-use mathlib.Core.List.{List, []}
+use mathlib.Core.List.{List}
 use mathlib.Core.Path.{sym, subst}
 use Prim.Native.Nat.{ℕ}
 use lib.ListN.{getD}
-use Rattle.std.specs.Of.Vec.{vec-items}
 use Rattle.rings.specs.Links.{Going}
 use Rattle.rings.proofs.Going.{going-start}
 use Rattle.rings.proofs.way.way_back.Needs as need

@@ -1,11 +1,11 @@
-use mathlib.Core.Path.{_≡_, sym, ap, subst, _∙_}
+use mathlib.Core.Path.{sym, ap, subst, _∙_}
 use mathlib.Core.List.{_++_}
-use Prim.Native.Nat.{ℕ, _<_}
+use Prim.Native.Nat.{ℕ}
 use native.Mathlib.Omega.{arith}
 use lib.ListN.{length}
 use Rattle.std.proofs.shelf.Lists.{length-map, getD-map}
 use Rattle.std.specs.Of.Vec.{vec-items}
-use Rattle.records.specs.Record.{Record, none, recordOf, recordsOf, didOf}
+use Rattle.records.specs.Record.{Record, none, recordOf, recordsOf}
 use Rattle.letters.proofs.Machines.{did-is}
 use Rattle.runs.specs.Making.{statesOf, Laid}
 use Rattle.runs.proofs.Layouts.{laid-none, laid-more, all-short}
