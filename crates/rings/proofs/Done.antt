@@ -1,15 +1,14 @@
 -- Places of a ring are of things that were done.
 use mathlib.Core.Logic.{inl, inr}
-use mathlib.Core.List.{List, [], _∷_, List·Memᴰ}
+use mathlib.Core.List.{List, [], _∷_}
 use Prim.Native.Nat.{_<_, _≤_}
 use native.Mathlib.Omega.{arith}
 use Rattle.records.specs.declared.place.Place.{Place}
 use Rattle.runs.specs.Run.{Run}
 use Rattle.rings.specs.Ring.{Step}
 use Rattle.runs.specs.Run.{Done as Inside}
-use Rattle.rings.specs.RingSearch.{Done, Walk, Round}
+use Rattle.rings.specs.RingSearch.{Done, Walk}
 use Rattle.rings.proofs.Decided.{leOrLt}
-use Rattle.rings.proofs.Walk.{turned}
 
 pub done-step : (r : Run) → Inside r → {p q : Place} → Step r p q → Done r p → Done r q
 done-step r ins (Step.next {i} {m} a b) d = (d .0, omega arith, b)
@@ -38,6 +37,3 @@ pub done-first : (r : Run) → Inside r → (p : Place) (ps : List Place) → Wa
 done-first r ins p ps w =
     let z = out r ins p ps p w in
     elim (leOrLt (r .count) (p .machine)) [ inl h ↦ absurd (omega (arith, beyond r ins p ps p w h)) | inr h ↦ (h, z .0, z .1) ]
-
-pub done-ring : (r : Run) → Inside r → (ps : List Place) → Round (Step r) ps → (q : Place) → List·Memᴰ q ps → Done r q
-done-ring r ins ps w q m = let z = turned (Step r) ps q w m in done-first r ins q (z .0) (z .1 .round)

@@ -2,7 +2,7 @@
 use mathlib.Core.Path.{_≡_, refl, sym, subst, ap}
 use mathlib.Core.Logic.{_⊎_, inl, inr}
 use mathlib.Core.List.{List·Memᴰ}
-use Prim.Native.Nat.{ℕ, _+_, _<_, _≤_}
+use Prim.Native.Nat.{ℕ, _+_, _<_}
 use native.Mathlib.Decide.{ℕ-discrete}
 use native.Mathlib.Omega.{arith}
 use Rattle.records.specs.declared.place.Place.{Place}
@@ -10,11 +10,10 @@ use Rattle.records.specs.Refusal.{Earlier}
 use Rattle.letters.specs.declared.letter.Letter.{Letter}
 use Rattle.runs.specs.Run.{Run}
 use Rattle.rings.specs.Ring.{Step}
-use Rattle.rings.specs.RingSearch.{Done, Flat, Edge, AtLeast}
+use Rattle.rings.specs.RingSearch.{Done, Flat, Edge}
 use Rattle.rings.proofs.Decided.{leOrLt}
 use Rattle.rings.proofs.RingBefore.{at}
 use Rattle.rings.proofs.Places.{place-eq, earlier-trans, Next, cases, by-next}
-use Rattle.rings.proofs.Table.{never-entered}
 
 pub not-before-itself : {p q : Place} → Earlier p q → p ≡ q → ⊥
 not-before-itself (inl h) e = omega (arith, h, ap (λ z. z .machine) e)
@@ -86,9 +85,3 @@ module _ (r : Run) (n : ℕ) (place : ℕ → Place) (flat : Flat r n place) whe
                 let j : c .0 < v + 1 = down (c .0) (v + 1) (c .1) h (subst (λ z. Earlier z (place (v + 1))) (c .2) (inr (e, omega (arith, a .1)))) in
                 absurd (omega arith)
           ]
-
-  -- only a getting can be a ring's lowest: other starts need no table; nor do gettings of what was sent at a lower number
-  pub no-start : (t m : ℕ) → t < n → ((v : ℕ) → t ≤ v → (l : Letter) → List·Memᴰ l (r .letters) → at (l .from) (l .sent) ≡ place v → at (l .to) (l .got) ≡ place t → ⊥) → AtLeast (Edge r n place) t m
-  no-start t m h none =
-      never-entered (Edge r n place) t m
-      (λ v k e. elim (edge-cases v t e) [ inl x ↦ omega (arith, x .0) | inr (l, i, a, b) ↦ none v k l i a b ])

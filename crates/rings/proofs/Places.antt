@@ -1,8 +1,8 @@
 -- The places of a run: their order, the steps between them, and a list of all of them.
-use mathlib.Core.Path.{_≡_, refl, sym, subst, ap, _∙_}
+use mathlib.Core.Path.{_≡_, refl, subst, _∙_}
 use mathlib.Core.Logic.{_⊎_, inl, inr}
-use mathlib.Core.List.{List, [], _∷_, _++_, List·Memᴰ, List·Memᴰ·head, List·Memᴰ·tail, Memᴰ·append-left, Memᴰ·append-right}
-use Prim.Native.Nat.{ℕ, zero, suc, _+_, _<_, _≤_}
+use mathlib.Core.List.{List, [], _∷_, _++_, List·Memᴰ}
+use Prim.Native.Nat.{ℕ, zero, suc, _+_, _≤_}
 use native.Mathlib.Decide.{ℕ-discrete}
 use native.Mathlib.Omega.{arith}
 use Rattle.records.specs.declared.place.Place.{Place}
@@ -10,37 +10,17 @@ use Rattle.records.specs.Refusal.{Earlier}
 use Rattle.letters.specs.declared.letter.Letter.{Letter}
 use Rattle.runs.specs.Run.{Run}
 use Rattle.rings.specs.Ring.{Step}
-use Rattle.rings.specs.RingSearch.{Done}
 use Rattle.rings.proofs.Decided.{leOrLt, allIn}
 use Rattle.rings.proofs.RingBefore.{at}
 
 pub place-eq : (p q : Place) → p .machine ≡ q .machine → p .doing ≡ q .doing → p ≡ q
 place-eq p q e f = subst (λ z. p ≡ at z (q .doing)) e (subst (λ z. p ≡ at (p .machine) z) f refl)
 
-abbrev pub NotAfter : Place → Place → Type 0
-NotAfter p q = (p ≡ q) ⊎ Earlier p q
-
-pub compare : (p q : Place) → NotAfter p q ⊎ Earlier q p
-compare p q =
-    elim (ℕ-discrete (p .machine) (q .machine)) [
-      | no ne ↦ elim (leOrLt (p .machine) (q .machine)) [ inl h ↦ inl (inr (inl (omega arith))) | inr h ↦ inr (inl h) ]
-      | yes e ↦
-          elim (ℕ-discrete (p .doing) (q .doing)) [
-            | yes f ↦ inl (inl (place-eq p q e f))
-            | no ne ↦ elim (leOrLt (p .doing) (q .doing)) [ inl h ↦ inl (inr (inr (e, omega arith))) | inr h ↦ inr (inr (sym e, h)) ]
-          ]
-    ]
-
 pub earlier-trans : (p q s : Place) → Earlier p q → Earlier q s → Earlier p s
 earlier-trans p q s (inl a) (inl b) = inl (omega arith)
 earlier-trans p q s (inl a) (inr b) = inl (omega (arith, b .0))
 earlier-trans p q s (inr a) (inl b) = inl (omega (arith, a .0))
 earlier-trans p q s (inr a) (inr b) = inr (a .0 ∙ b .0, omega (arith, a .1, b .1))
-
-pub notAfter-trans : (p q s : Place) → NotAfter p q → NotAfter q s → NotAfter p s
-notAfter-trans p q s (inl a) b = subst (λ z. NotAfter z s) (sym a) b
-notAfter-trans p q s (inr a) (inl b) = inr (subst (λ z. Earlier p z) b a)
-notAfter-trans p q s (inr a) (inr b) = inr (earlier-trans p q s a b)
 
 -- a step, in equations
 abbrev pub Next : Run → Place → Place → Type 0
@@ -111,24 +91,5 @@ each : Run → ℕ → List Place
 each r zero = []
 each r (suc k) = own k (r .did k) ++ each r k
 
-in-own : (i n m : ℕ) → 1 ≤ m → m ≤ n → List·Memᴰ (at i m) (own i n)
-unfolding own
-in-own i zero m a b = absurd (omega arith)
-in-own i (suc n) m a b =
-    elim (ℕ-discrete m (suc n)) [ yes e ↦ List·Memᴰ·head (ap (λ z. at i z) e) | no ne ↦ List·Memᴰ·tail (in-own i n m a (omega arith)) ]
-
-in-each : (r : Run) (k i m : ℕ) → i < k → 1 ≤ m → m ≤ r .did i → List·Memᴰ (at i m) (each r k)
-unfolding each
-in-each r zero i m h a b = absurd (omega arith)
-in-each r (suc k) i m h a b =
-    elim (ℕ-discrete i k) [
-      | yes e ↦ Memᴰ·append-left (each r k) (subst (λ z. List·Memᴰ (at i m) (own z (r .did z))) e (in-own i (r .did i) m a b))
-      | no ne ↦ Memᴰ·append-right (own k (r .did k)) (in-each r k i m (omega arith) a b)
-    ]
-
 pub places : Run → List Place
 places r = each r (r .count)
-
-pub in-places : (r : Run) (p : Place) → Done r p → List·Memᴰ p (places r)
-unfolding places
-in-places r p d = in-each r (r .count) (p .machine) (p .doing) (d .0) (d .1) (d .2)

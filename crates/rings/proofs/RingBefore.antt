@@ -26,10 +26,6 @@ pub toRound : (r : Run) (ps : List Place) → Ring r ps → Round (Step r) ps
 toRound r [] s = absurd s
 toRound r (p ∷ ps) s = toWalk r p ps p s
 
-pub toRing : (r : Run) (ps : List Place) → Round (Step r) ps → Ring r ps
-toRing r [] s = absurd s
-toRing r (p ∷ ps) s = toSteps r p ps p s
-
 -- along one machine
 along : (r : Run) (i m n : ℕ) → 1 ≤ m → m < n → n ≤ r .did i → (ps : List Place) × Walk (Step r) (at i m) ps (at i n)
 along r i m zero a b c = absurd (omega arith)

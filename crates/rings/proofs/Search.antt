@@ -95,21 +95,6 @@ module _ (E : ℕ → ℕ → Type 0) where
   pub exact-walk : (s top : ℕ) (d : ℕ → ℕ) → Exact E s top d → (k v : ℕ) → s ≤ v → d v ≡ 1 + k → d v < top → (qs : List ℕ) × From s qs × Walk E v qs s × (length qs ≡ k)
   exact-walk s top d x = attained-walk s top d (x .some) (x .attained)
 
-  pub level-walk : (s top j : ℕ) (d : ℕ → ℕ) → Level E s top j d → (k v : ℕ) → s ≤ v → d v ≡ 1 + k → d v < top → (qs : List ℕ) × From s qs × Walk E v qs s × (length qs ≡ k)
-  level-walk s top j d x = attained-walk s top d (x .some) (x .attained)
-
-  -- A level tells already of the rings with up to k + 1 numbers: the search from s can end as soon as s has its distance.
-  level-under : (s top k : ℕ) (d : ℕ → ℕ) → Level E s top k d → (m v : ℕ) (qs : List ℕ) → s ≤ v → From s qs → Walk E v qs s → m ≤ d v → m ≤ k + 1 → m ≤ 1 + length qs
-  level-under s top k d le m v [] h f w a b = omega (arith, le .close v h w)
-  level-under s top k d le m v (q ∷ qs) h f w a b =
-      elim (leOrLt k (d q)) [
-        | inl e ↦ omega (arith, level-under s top k d le k q qs (f .0) (f .1) (w .1) e (omega arith))
-        | inr e ↦ omega (arith, le .on v q h (f .0) (w .0) e, level-under s top k d le (d q) q qs (f .0) (f .1) (w .1) (omega arith) (omega arith))
-      ]
-
-  pub level-least : (s top k m : ℕ) (d : ℕ → ℕ) → Level E s top k d → m ≤ d s → m ≤ k + 1 → AtLeast E s m
-  level-least s top k m d le a b qs f w = level-under s top k d le m s qs (omega arith) f w a b
-
   pub best-none : (l : ℕ) → Best E 0 0 l
   best-none l = record { before = omega arith; least = λ u h. absurd (omega arith); first = λ u h k. absurd (omega arith) }
 

@@ -57,11 +57,6 @@ module _ (E : ℕ → ℕ → Type 0) where
       let z = last E t qs t w in
       absurd (none (z .0) (elim (List·Memᴰ·cases-cons (z .1)) [ inl e ↦ omega arith | inr k ↦ all-from t qs f k ]) (z .2))
 
-  -- no step leads from what was not reached back to what was: no ring at t
-  pub unreached : (t : ℕ) (U : ℕ → Type 0) → ((v w : ℕ) → t ≤ v → t ≤ w → U v → E v w → U w) → ((v : ℕ) → t ≤ v → U v → E v t → ⊥) → (v : ℕ) (qs : List ℕ) → t ≤ v → U v → From t qs → Walk E v qs t → ⊥
-  unreached t U on close v [] h u f w = close v h u w
-  unreached t U on close v (q ∷ qs) h u f w = unreached t U on close q qs (f .0) (on v q h (f .0) u (w .0)) (f .1) (w .1)
-
   pub greedy-walk : (s : ℕ) (d : ℕ → ℕ) (v : ℕ) (ws : List ℕ) → Greedy E s d v ws → Walk E v ws s
   greedy-walk s d v [] g = g
   greedy-walk s d v (w ∷ ws) g = (g .0, greedy-walk s d w ws (g .2))
