@@ -8,7 +8,7 @@ use Rattle.runs.specs.Run.{Run}
 use Rattle.rings.specs.Ring.{Step}
 use Rattle.runs.specs.Run.{Done as Inside}
 use Rattle.rings.specs.RingSearch.{Done, Walk}
-use Rattle.rings.proofs.Decided.{leOrLt}
+use Rattle.rings.proofs.Comparing.{leOrLt}
 
 pub done-step : (r : Run) → Inside r → {p q : Place} → Step r p q → Done r p → Done r q
 done-step r ins (Step.next {i} {m} a b) d = (d .0, omega arith, b)

@@ -11,7 +11,7 @@ use Rattle.letters.specs.declared.letter.Letter.{Letter}
 use Rattle.runs.specs.Run.{Run}
 use Rattle.rings.specs.Ring.{Step}
 use Rattle.rings.specs.RingSearch.{Done, Flat, Edge}
-use Rattle.rings.proofs.Decided.{leOrLt}
+use Rattle.rings.proofs.Comparing.{leOrLt}
 use Rattle.rings.proofs.RingBefore.{at}
 use Rattle.rings.proofs.Places.{place-eq, earlier-trans, Next, cases, by-next}
 

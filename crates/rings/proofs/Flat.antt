@@ -10,7 +10,7 @@ use Rattle.runs.specs.Run.{Run, Before}
 use Rattle.rings.specs.Ring.{Step, Steps, Ring, NoLater, LowestRing}
 use Rattle.runs.specs.Run.{Done as Inside}
 use Rattle.rings.specs.RingSearch.{Done, Flat, Edge, Walk, Round, AtLeast, Found}
-use Rattle.rings.proofs.Decided.{leOrLt}
+use Rattle.rings.proofs.Comparing.{leOrLt}
 use Rattle.rings.proofs.RingBefore.{toRound, ringByBefore}
 use Rattle.rings.proofs.Done.{done-step, done-first}
 use Rattle.rings.proofs.Table.{Lower, greedy-walk, found-fewest, found-lowest}

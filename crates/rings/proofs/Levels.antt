@@ -10,7 +10,7 @@ use lib.ListN.{length, getD, set, length-set, List·getD-eq-default}
 use Rattle.std.proofs.shelf.Lists.{getD-default, getD-set-same, getD-set-other}
 use Rattle.rings.specs.RingSearch.{Level, Raising}
 use Rattle.rings.specs.Links.{In, far, Marked, Maybe, Into, Frontier}
-use Rattle.rings.proofs.Decided.{leOrLt}
+use Rattle.rings.proofs.Comparing.{leOrLt}
 use Rattle.rings.proofs.Search.{level-next}
 use Rattle.rings.proofs.Raising.{raising-none, raising-seen, raising-set, raising-more, raising-all, raising-said}
 

@@ -16,4 +16,4 @@ mod Starts
 mod Numbered
 mod Same
 mod Whole
-mod Decided
+mod Comparing

@@ -8,7 +8,7 @@ use Rattle.records.specs.declared.place.Place.{Place}
 use Rattle.records.specs.Refusal.{Earlier}
 use Rattle.runs.specs.Run.{Run}
 use Rattle.rings.specs.RingSearch.{Done, Flat, UpTo, Filled}
-use Rattle.rings.proofs.Decided.{leOrLt}
+use Rattle.rings.proofs.Comparing.{leOrLt}
 use Rattle.rings.proofs.RingBefore.{at}
 use Rattle.rings.proofs.Places.{place-eq}
 

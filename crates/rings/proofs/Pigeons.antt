@@ -7,7 +7,7 @@ use native.Mathlib.Decide.{ℕ-discrete}
 use native.Mathlib.Omega.{arith}
 use lib.ListN.{length, length-append}
 use Rattle.rings.specs.RingSearch.{Walk, Round, AtLeast}
-use Rattle.rings.proofs.Decided.{leOrLt}
+use Rattle.rings.proofs.Comparing.{leOrLt}
 use Rattle.rings.proofs.Walk.{part, turn, split}
 use Rattle.rings.proofs.Table.{lowered}
 

@@ -6,7 +6,7 @@ use native.Mathlib.Decide.{ℕ-discrete}
 use native.Mathlib.Omega.{arith}
 use Rattle.records.specs.declared.place.Place.{Place}
 use Rattle.runs.specs.Run.{Run, Before}
-use Rattle.rings.specs.Ring.{Step, Steps, Ring, RingByBefore}
+use Rattle.rings.specs.Ring.{Step, Steps, Ring}
 use Rattle.rings.specs.RingSearch.{Walk, Round}
 use Rattle.rings.proofs.Walk.{join}
 
@@ -55,7 +55,7 @@ pub before : (r : Run) (p : Place) (ps : List Place) (back : Place) → Walk (St
 before r p [] back w = stepped r w
 before r p (q ∷ qs) back w = Before.through (q .machine) (q .doing) (stepped r (w .0)) (before r q qs back (w .1))
 
-pub ringByBefore : RingByBefore
+pub ringByBefore : (r : Run) → (((i : ℕ) × (m : ℕ) × Before r i m i m) → (ps : List Place) × Ring r ps) × (((ps : List Place) × Ring r ps) → (i : ℕ) × (m : ℕ) × Before r i m i m)
 ringByBefore r = (
   (λ x. let z = walked r (x .2) in (at (x .0) (x .1) ∷ z .0, toSteps r (at (x .0) (x .1)) (z .0) (at (x .0) (x .1)) (z .1))),
   (λ x. back (x .0) (x .1)),

@@ -7,7 +7,7 @@ use native.Mathlib.Decide.{ℕ-discrete}
 use native.Mathlib.Omega.{arith}
 use lib.ListN.{length}
 use Rattle.rings.specs.RingSearch.{Walk, From, AtLeast, Table, Attained, Exact, Level, Raised, Best, Greedy, Toward, Found}
-use Rattle.rings.proofs.Decided.{leOrLt}
+use Rattle.rings.proofs.Comparing.{leOrLt}
 use Rattle.rings.proofs.Table.{table-under}
 
 module _ (E : ℕ → ℕ → Type 0) where

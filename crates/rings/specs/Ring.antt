@@ -7,7 +7,7 @@ use lib.ListN.{length}
 use Rattle.records.specs.declared.place.Place.{Place}
 use Rattle.records.specs.Refusal.{Earlier}
 use Rattle.letters.specs.declared.letter.Letter.{Letter}
-use Rattle.runs.specs.Run.{Run, Before}
+use Rattle.runs.specs.Run.{Run}
 
 -- one step: to the machine's next doing, or from a letter's sending to its getting
 pub data Step (r : Run) : Place → Place → Type 0 where
@@ -34,7 +34,3 @@ pub record LowestRing (r : Run) (ps : List Place) : Type 0 where
   pub ring : Ring r ps
   pub fewest : (qs : List Place) → Ring r qs → length ps ≤ length qs
   pub lowest : (qs : List Place) → Ring r qs → length qs ≡ length ps → NoLater ps qs
-
--- some doing comes before itself exactly if there is a ring
-abbrev pub RingByBefore : Type 0
-RingByBefore = (r : Run) → (((i : ℕ) × (m : ℕ) × Before r i m i m) → (ps : List Place) × Ring r ps) × (((ps : List Place) × Ring r ps) → (i : ℕ) × (m : ℕ) × Before r i m i m)
