@@ -56,6 +56,7 @@ fn better(
     Ok(Best { start: t, fewest })
 }
 
+// The best of all starts.
 fn shortest(
     heap: Global,
     was: &[bool],

@@ -41,6 +41,7 @@ fn push_machine(places: &mut Vec<Place>, machine: u8, did: u16) -> Result<(), Al
     Ok(())
 }
 
+// Numbers the doings, machine after machine.
 pub(crate) fn number_doings(heap: Global, run: &Run) -> Result<Numbers, AllocError>
     ensures { λ r. ⌜ made r (λ x. Numbered (now (run .entry)) (vec-items (x .places)) (x .begins)) ⌝ }
 {
@@ -65,6 +66,7 @@ fn number_of_sending(run: &Run, begins: Counts, place: Place, size: usize) -> us
     }
 }
 
+// For each number those from which a step leads to it.
 pub(crate) fn link_doings(heap: Global, run: &Run, numbers: &Numbers) -> Result<Links, AllocError>
     requires numbered { ⌜ Numbered (now run) (vec-items (now numbers .places)) (now numbers .begins) ⌝ }
     ensures { λ r. ⌜ made r (λ x. LinkedTo (now (run .entry)) (vec-items (now (numbers .entry) .places)) (now (numbers .entry) .begins) (length (vec-items (now (numbers .entry) .places))) (vec-items (x .was)) (vec-items (x .by))) ⌝ }

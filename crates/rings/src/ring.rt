@@ -16,6 +16,7 @@ use runs::run::Run;
 use std::alloc::AllocError;
 use std::alloc::Global;
 
+// The place that a number stands for.
 fn place_at(places: &[Place], number: usize) -> Place
     requires { ⌜ number < length (now places) ⌝ }
     ensures { λ r. ⌜ r ≡ placeOf (now (places .entry)) number ⌝ }
