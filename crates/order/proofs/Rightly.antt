@@ -59,4 +59,4 @@ has-ring fs m run stuck cut x o v h made is ord found e =
     let Q : Run → Type 0 = λ r. RingFound (runOf r) (Some v) in
     let R : Option (Vec Place Global) → Type 0 = RingFound (runOf stuck) in
     let k = subst P is ord in
-    record { records = recordsOf (vec-items (m .records)); run = runOf run; read = h .0; once = h .1 .once; sent = h .1 .sent; makes = made .makes; lowest = subst Q (k .0) (subst R e found) }
+    record { records = recordsOf (vec-items (m .records)); run = runOf run; read = h .0; once = h .1 .once; sent = h .1 .sent; makes = made .makes; itself = k .1 .ring; lowest = subst Q (k .0) (subst R e found) }

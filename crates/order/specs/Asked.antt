@@ -12,7 +12,7 @@ use Rattle.records.specs.Reading.{ReadAs}
 use Rattle.letters.specs.declared.matched.Matched.{Matched}
 use Rattle.letters.specs.Matching.{LettersOf}
 use Rattle.letters.specs.Recorded.{RefusedFor}
-use Rattle.runs.specs.Run.{Run, Makes}
+use Rattle.runs.specs.Run.{Run, Before, Makes}
 use Rattle.runs.specs.Model.{RunOf}
 use Rattle.rings.specs.Ring.{LowestRing}
 use Rattle.order.specs.declared.asked.Asked.{Asked}
@@ -20,7 +20,7 @@ use Rattle.order.specs.declared.asked.Asked.the-variants as asked
 use Rattle.order.specs.declared.ordered.Ordered.{Ordered}
 use Rattle.order.specs.Ordering.{InOrder}
 
--- 4. The records are in form and each letter has its sending, but the run that they make has a ring; this is the lowest.
+-- 4. The records are in form and each letter has its sending, but in the run that they make some doing comes before itself; this is the lowest ring of such.
 pub record HasRing (fs : List (List ℕ)) (ps : List Place) : Type 0 where
   pub records : List Record
   pub run : Run
@@ -28,6 +28,7 @@ pub record HasRing (fs : List (List ℕ)) (ps : List Place) : Type 0 where
   pub once : (p : Place) → Again records p → ⊥
   pub sent : (p : Place) → Unsent records p → ⊥
   pub makes : Makes records run
+  pub itself : (i : ℕ) × (m : ℕ) × Before run i m i m
   pub lowest : LowestRing run ps
 
 abbrev pub RefusedRightly : List (List ℕ) → Refusal → Type 0

@@ -12,7 +12,7 @@ use Rattle.runs.specs.Run.{Run}
 use Rattle.rings.specs.Ring.{Step}
 use Rattle.rings.specs.RingSearch.{Done, Flat, Edge}
 use Rattle.rings.proofs.Comparing.{leOrLt}
-use Rattle.rings.proofs.RingBefore.{at}
+use Rattle.letters.specs.Noting.{place as at}
 use Rattle.rings.proofs.Places.{place-eq, earlier-trans, Next, cases, by-next}
 
 pub not-before-itself : {p q : Place} → Earlier p q → p ≡ q → ⊥

@@ -18,7 +18,8 @@ use Rattle.runs.specs.Run.{Run}
 use Rattle.runs.specs.Model.{countsOf, sendingOf, runOf}
 use Rattle.runs.proofs.Places.{set-here, set-rest}
 use Rattle.rings.specs.RingSearch.{Flat, Filled}
-use Rattle.rings.specs.Numbers.{at, placesOf, placesIn, NumberedTo, Numbered, placeOf, numberOf, LinkedTo}
+use Rattle.letters.specs.Noting.{place as at}
+use Rattle.rings.specs.Numbers.{placesOf, placesIn, NumberedTo, Numbered, placeOf, numberOf, LinkedTo}
 use Rattle.rings.proofs.Numbering.{filled-none, filled-push, filled-machine, filled-flat}
 
 of-long : (i m : ℕ) → length (placesOf i m) ≡ m

@@ -9,7 +9,7 @@ use Rattle.records.specs.Refusal.{Earlier}
 use Rattle.runs.specs.Run.{Run}
 use Rattle.rings.specs.RingSearch.{Done, Flat, UpTo, Filled}
 use Rattle.rings.proofs.Comparing.{leOrLt}
-use Rattle.rings.proofs.RingBefore.{at}
+use Rattle.letters.specs.Noting.{place as at}
 use Rattle.rings.proofs.Places.{place-eq}
 
 pub filled-none : (r : Run) (place : ℕ → Place) → Filled r place 0 0 0

@@ -9,7 +9,7 @@ use Rattle.records.specs.Refusal.{Earlier}
 use Rattle.letters.specs.declared.letter.Letter.{Letter}
 use Rattle.runs.specs.Run.{Run}
 use Rattle.rings.specs.Ring.{Step}
-use Rattle.rings.proofs.RingBefore.{at}
+use Rattle.letters.specs.Noting.{place as at}
 
 pub place-eq : (p q : Place) → p .machine ≡ q .machine → p .doing ≡ q .doing → p ≡ q
 place-eq p q e f = subst (λ z. p ≡ at z (q .doing)) e (subst (λ z. p ≡ at (p .machine) z) f refl)

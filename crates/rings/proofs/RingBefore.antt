@@ -5,13 +5,11 @@ use Prim.Native.Nat.{ℕ, zero, suc, _+_, _<_, _≤_}
 use native.Mathlib.Decide.{ℕ-discrete}
 use native.Mathlib.Omega.{arith}
 use Rattle.records.specs.declared.place.Place.{Place}
+use Rattle.letters.specs.Noting.{place as at}
 use Rattle.runs.specs.Run.{Run, Before}
 use Rattle.rings.specs.Ring.{Step, Steps, Ring}
 use Rattle.rings.specs.RingSearch.{Walk, Round}
 use Rattle.rings.proofs.Walk.{join}
-
-abbrev pub at : ℕ → ℕ → Place
-at i m = record { machine = i; doing = m }
 
 -- the two words for the same
 pub toWalk : (r : Run) (p : Place) (ps : List Place) (back : Place) → Steps r p ps back → Walk (Step r) p ps back

@@ -17,7 +17,8 @@ use Rattle.runs.proofs.Linked.{linked, cameFrom}
 use Rattle.rings.specs.RingSearch.{Edge, Walk, AtLeast, Greedy, Found}
 use Rattle.rings.specs.Links.{In}
 use Rattle.rings.specs.Lowest.{AllBelow}
-use Rattle.rings.specs.Numbers.{at, Numbered, placeOf, numberOf, LinkedTo}
+use Rattle.letters.specs.Noting.{place as at}
+use Rattle.rings.specs.Numbers.{Numbered, placeOf, numberOf, LinkedTo}
 use Rattle.rings.proofs.Places.{Next}
 use Rattle.rings.proofs.Numbered.{flat, number-at}
 use Rattle.rings.proofs.Edges.{one-number, edge-cases, edge-letter, edge-next, next-number}

@@ -9,12 +9,10 @@ use lib.ListN.{length, getD}
 use Rattle.std.specs.declared.option.Option.{Option}
 use Rattle.std.specs.declared.option.Option.the-variants.{Some, None}
 use Rattle.records.specs.declared.place.Place.{Place}
+use Rattle.letters.specs.Noting.{place as at}
 use Rattle.runs.specs.declared.counts.Counts.{Counts}
 use Rattle.runs.specs.declared.run.Run.{Run}
 use Rattle.runs.specs.Model.{countsOf, sendingOf}
-
-abbrev pub at : ℕ → ℕ → Place
-at i m = record { machine = i; doing = m }
 
 -- the first m doings of machine i, and all of the first so many machines
 abbrev pub placesOf : ℕ → ℕ → List Place

@@ -27,10 +27,12 @@ impl Counts {
         Counts { of }
     }
 
-    // The higher count of each of the first so many machines, and how many pairs of counts were compared for that.
+    // The higher count of each of the first so many machines, the others as they are, and how many pairs of counts were compared
+    // for that.
     pub fn joined(self, count: usize, other: Counts) -> (Counts, u64)
         requires { ⌜ count ≤ 40 ⌝ }
         ensures higher { λ r. ⌜ ((k : ℕ) → k < count → getD (r .0 .of) k 0 ≡ max (getD (self .of) k 0) (getD (other .of) k 0)) ⌝ }
+        ensures others { λ r. ⌜ ((k : ℕ) → count ≤ k → getD (r .0 .of) k 0 ≡ getD (self .of) k 0) ⌝ }
         ensures pairs { λ r. ⌜ r .1 ≡ count ⌝ }
     {
         let mut of = self.of;

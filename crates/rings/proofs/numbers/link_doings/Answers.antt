@@ -8,7 +8,8 @@ use Rattle.std.specs.Of.Vec.{vec-items}
 use Rattle.records.specs.declared.place.Place.{Place}
 use Rattle.runs.specs.Model.{sendingOf, runOf}
 use Rattle.rings.specs.RingSearch.{Done}
-use Rattle.rings.specs.Numbers.{at, placeOf, numberOf, LinkedTo}
+use Rattle.letters.specs.Noting.{place as at}
+use Rattle.rings.specs.Numbers.{placeOf, numberOf, LinkedTo}
 use Rattle.rings.proofs.Numbered.{flat, linked-none, linked-more}
 use Rattle.rings.proofs.numbers.link_doings.Needs as need
 

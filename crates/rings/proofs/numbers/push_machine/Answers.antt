@@ -5,7 +5,8 @@ use native.Mathlib.Omega.{arith}
 use native.Mathlib.Numerals.{add-one}
 use Rattle.std.specs.Of.Vec.{vec-items}
 use Rattle.records.specs.declared.place.Place.{Place}
-use Rattle.rings.specs.Numbers.{at, placesOf}
+use Rattle.letters.specs.Noting.{place as at}
+use Rattle.rings.specs.Numbers.{placesOf}
 use Rattle.rings.proofs.numbers.push_machine.Needs as need
 
 pub loop-m-holds : need.loop-m-holds
