@@ -1,4 +1,6 @@
 // `all RECORD..`: goes through all cuts of a small run and answers each question by looking at each.
+#![tactic(auto)]
+
 use cli::refusals::tell_refusal;
 use cli::{beginnings, words};
 use exhaustive::findings::{Findings, Looked, Replied};

@@ -1,4 +1,6 @@
 // Questions, answers and replies: the bytes that say them, out and in, and their words.
+#![tactic(auto)]
+
 pub mod answer;
 pub mod question;
 pub mod reading;

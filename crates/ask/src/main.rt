@@ -1,4 +1,6 @@
 // `ask QUESTION ANSWER RECORD..`: what can be known from machines' records.
+#![tactic(auto)]
+
 use answers::question::Question;
 use answers::reply::Reply;
 use asking::asking::answer_question;

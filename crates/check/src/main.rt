@@ -1,4 +1,6 @@
 // `check [QUESTION] ANSWER RECORD..`: whether an answer shows what it says of machines' records.
+#![tactic(auto)]
+
 use answers::question::Question;
 use checker::judging::judge;
 use checker::verdict::Verdict;

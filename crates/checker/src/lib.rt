@@ -1,4 +1,6 @@
 // Whether an answer shows what it says.
+#![tactic(auto)]
+
 pub mod judging;
 pub(crate) mod looking;
 pub mod verdict;

@@ -1,5 +1,7 @@
 // What programs take from outside and leave there: the words of the command line, files, and what is printed. No contract can
 // speak of those.
+#![tactic(auto)]
+
 pub mod refusals;
 
 use records::reading::TELLING;

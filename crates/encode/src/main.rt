@@ -1,4 +1,6 @@
 // `encode MACHINE TEXT RECORD`: a machine's record from a text that people can write.
+#![tactic(auto)]
+
 use cli::{words, write_whole};
 use records::doing::{Doing, Kind};
 use records::record::Record;

@@ -1,4 +1,6 @@
 // All cuts of a small run, looked at one by one: slow and plain.
+#![tactic(auto)]
+
 pub(crate) mod at_cut;
 pub(crate) mod counter;
 pub mod findings;

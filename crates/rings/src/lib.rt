@@ -1,4 +1,6 @@
 // Rings of doings that come before themselves: the lowest of the shortest.
+#![tactic(auto)]
+
 pub(crate) mod distances;
 pub(crate) mod finding;
 pub(crate) mod numbers;

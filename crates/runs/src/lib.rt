@@ -1,4 +1,6 @@
 // Runs: what the matched records of all machines come to, laid out flat.
+#![tactic(auto)]
+
 pub mod counts;
 pub mod making;
 pub mod reads;

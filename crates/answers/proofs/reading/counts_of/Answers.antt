@@ -18,9 +18,9 @@ loop-k-preserved c =
     ∙ ap (λ (x : List ℕ). x ++ get_or bs (n + 1) 0 ∷ []) (take_more bs n 0 (omega (arith, c.loop-k-test.true, c.requires.even)))
     ∙ append_assoc (take n bs) (get_or bs n 0 ∷ []) (get_or bs (n + 1) 0 ∷ [])
     ∙ ap (λ (x : List ℕ). x ++ get_or bs n 0 ∷ (get_or bs (n + 1) 0 ∷ [])) c.loop-k.invariant
-    ∙ ap (λ (x : List ℕ). each2 (vec_items c.loop-k.counts) ++ x) (sym c.count-of.ensures)
-    ∙ sym (each2_push (vec_items c.loop-k.counts) c.count-of.result)
-    ∙ ap each2 (sym c.in-ok-push.ensures.items)
+    ∙ ap (λ (x : List ℕ). each2 (vec_items c.loop-k.counts) ++ x) (sym c.count_of.ensures)
+    ∙ sym (each2_push (vec_items c.loop-k.counts) c.count_of.result)
+    ∙ ap each2 (sym c.in_ok-push.ensures.items)
 
 pub returns : goal.returns
 returns c = sym (take_all (2 * c.loop-k.k) c.args.bytes.now (omega (arith, c.requires.even, c.loop-k-test.false))) ∙ c.loop-k.invariant

@@ -22,5 +22,5 @@ returns-then-front-ne1-2 c = λ a to e.
 pub returns : goal.returns
 returns c =
     let fs = c.args.front.now in
-    from_three fs (each2 (vec_items c.in-ok-cut.cut)) 1 c.if-front-lt3.false c.if-front-ne77.false c.if-front-ne1.false c.if-front-ne1-2.false
-    (sym (take_all (length fs - 3) (drop 3 fs) (omega (arith, length-drop 3 fs))) ∙ c.in-ok-cut.ensures)
+    from_three fs (each2 (vec_items c.in_ok-cut.cut)) 1 c.if-front-lt3.false c.if-front-ne77.false c.if-front-ne1.false c.if-front-ne1-2.false
+    (sym (take_all (length fs - 3) (drop 3 fs) (omega (arith, length-drop 3 fs))) ∙ c.in_ok-cut.ensures)

@@ -11,19 +11,19 @@ returns-then-bytes-lt16 c = λ a to e. omega (arith, (split c.args.bytes.now a e
 pub returns-in-None : goal.returns-in-None
 returns-in-None c =
     let bs = c.args.bytes.now in
-    let P : Option Answer → Type 0 = FrontRead c.split-at.result.0.now in
-    let none = subst P c.in-None.is c.in-ok-read.ensures in
-    λ a to e. none a.answer to (c.split-at.ensures.front ∙ (split bs a e).1)
+    let P : Option Answer → Type 0 = FrontRead c.split_at.result.0.now in
+    let none = subst P c.in-None.is c.in_ok-read.ensures in
+    λ a to e. none a.answer to (c.split_at.ensures.front ∙ (split bs a e).1)
 
 pub returns-in-Some : goal.returns-in-Some
 returns-in-Some c =
     let bs = c.args.bytes.now in
-    let steps = c.split-at.result.1.now in
-    let P : Option Answer → Type 0 = FrontRead c.split-at.result.0.now in
-    let front : c.split-at.result.0.now ≡ 77 ∷ answer_bytes (answer_of c.in-Some.answer) = subst P c.in-Some.is c.in-ok-read.ensures in
-    let m = c.number-of.result in
-    let n = c.number-of-in-Some.result in
-    let back : steps ≡ bytes8 m ++ bytes8 n = both_numbers steps m n (omega (arith, c.split-at.ensures.back_len, c.if-bytes-lt16.false)) c.number-of.ensures c.number-of-in-Some.ensures in
+    let steps = c.split_at.result.1.now in
+    let P : Option Answer → Type 0 = FrontRead c.split_at.result.0.now in
+    let front : c.split_at.result.0.now ≡ 77 ∷ answer_bytes (answer_of c.in-Some.answer) = subst P c.in-Some.is c.in_ok-read.ensures in
+    let m = c.number_of.result in
+    let n = c.number_of-in-Some.result in
+    let back : steps ≡ bytes8 m ++ bytes8 n = both_numbers steps m n (omega (arith, c.split_at.ensures.back_len, c.if-bytes-lt16.false)) c.number_of.ensures c.number_of-in-Some.ensures in
     let a = counted_of (record { answer = c.in-Some.answer; pairs = m; ways = n }) in
-    let is : bs ≡ counted_bytes a = c.split-at.ensures.by_index.0 ∙ ap (λ (x : List ℕ). x ++ steps) front ∙ ap (λ (x : List ℕ). (77 ∷ answer_bytes (answer_of c.in-Some.answer)) ++ x) back in
-    (is, λ b to e. counted_same b a to (to_may c.in-Some.answer) (sym e ∙ is), c.number-of.type-inv, c.number-of-in-Some.type-inv)
+    let is : bs ≡ counted_bytes a = c.split_at.ensures.by_index.0 ∙ ap (λ (x : List ℕ). x ++ steps) front ∙ ap (λ (x : List ℕ). (77 ∷ answer_bytes (answer_of c.in-Some.answer)) ++ x) back in
+    (is, λ b to e. counted_same b a to (to_may c.in-Some.answer) (sym e ∙ is), c.number_of.type_inv, c.number_of-in-Some.type_inv)

@@ -10,19 +10,19 @@ use Rattle.asking.proofs.asking.answer_question.Goals.{In-Run}
 
 -- what the files came to
 ordered : (c : In-Run) (whole : List (List ℕ)) → BeginAlike whole (files_of c.args.files.now) → InOrderAs whole c.in-Run.matched c.in-Run.ordered
-ordered c whole alike = at_arm whole _ _ c.in-Run.is (c.in-ok-asked.ensures whole alike)
+ordered c whole alike = at_arm whole _ _ c.in-Run.is (c.in_ok-asked.ensures whole alike)
 
 pub returns-in-Refused : goal.returns-in-Refused
-returns-in-Refused c = record { right = λ whole alike. refused (at_arm whole _ _ c.in-Refused.is (c.in-ok-asked.ensures whole alike)); steps = λ whole alike. tt }
+returns-in-Refused c = record { right = λ whole alike. refused (at_arm whole _ _ c.in-Refused.is (c.in_ok-asked.ensures whole alike)); steps = λ whole alike. tt }
 
-pub decide-may-requires : goal.decide-may-requires
-decide-may-requires c = record { order = (ordered (goal.at.decide-may-requires c).In-Run (files_of c.args.files.now) refl).order }
+pub decide_may-requires : goal.decide_may-requires
+decide_may-requires c = record { order = (ordered (goal.at.decide_may-requires c).In-Run (files_of c.args.files.now) refl).order }
 
 pub returns : goal.returns
 returns c =
     let files = ordered (goal.at.returns c).In-Run in
-    let a = counted_of c.in-ok-counted.counted in
+    let a = counted_of c.in_ok-counted.counted in
     record {
-      right = λ whole alike. of_question whole c.args.question _ (may_right whole c.in-Run.matched c.in-Run.ordered a (files whole alike) c.in-ok-counted.ensures);
-      steps = λ whole alike. may_steps whole c.in-Run.matched c.in-Run.ordered a (files whole alike) c.in-ok-counted.ensures;
+      right = λ whole alike. of_question whole c.args.question _ (may_right whole c.in-Run.matched c.in-Run.ordered a (files whole alike) c.in_ok-counted.ensures);
+      steps = λ whole alike. may_steps whole c.in-Run.matched c.in-Run.ordered a (files whole alike) c.in_ok-counted.ensures;
     }

@@ -9,22 +9,22 @@ use Rattle.checker.proofs.judging.judge.Goals.{In-Run}
 
 -- what the files came to
 ordered : (c : In-Run) (whole : List (List ℕ)) → BeginAlike whole (files_of c.args.files.now) → InOrderAs whole c.in-Run.matched c.in-Run.ordered
-ordered c whole alike = at_arm whole _ _ c.in-Run.is (c.in-ok-asked.ensures whole alike)
+ordered c whole alike = at_arm whole _ _ c.in-Run.is (c.in_ok-asked.ensures whole alike)
 
 pub returns-in-Refused : goal.returns-in-Refused
-returns-in-Refused c = record { judged = λ whole alike. at_arm whole _ _ c.in-Refused.is (c.in-ok-asked.ensures whole alike); one = one_verdict }
+returns-in-Refused c = record { judged = λ whole alike. at_arm whole _ _ c.in-Refused.is (c.in_ok-asked.ensures whole alike); one = one_verdict }
 
 pub look-requires : goal.look-requires
 look-requires c = record { order = (ordered (goal.at.look-requires c).In-Run (files_of c.args.files.now) refl).order }
 
 pub returns : goal.returns
 returns c = record {
-  judged = λ whole alike. of_question whole c.args.question c.args.bytes.now c.in-ok-verdict.verdict (may_judged whole c.in-Run.matched c.in-Run.ordered c.args.bytes.now c.in-ok-verdict.verdict (ordered (goal.at.returns c).In-Run whole alike) c.in-ok-verdict.ensures);
+  judged = λ whole alike. of_question whole c.args.question c.args.bytes.now c.in_ok-verdict.verdict (may_judged whole c.in-Run.matched c.in-Run.ordered c.args.bytes.now c.in_ok-verdict.verdict (ordered (goal.at.returns c).In-Run whole alike) c.in_ok-verdict.ensures);
   one = one_verdict;
 }
 
-pub returns-in-err-asked : goal.returns-in-err-asked
-returns-in-err-asked c = record { judged = search rules; one = one_verdict }
+pub returns-in_err-asked : goal.returns-in_err-asked
+returns-in_err-asked c = record { judged = search rules; one = one_verdict }
 
-pub returns-in-err-verdict : goal.returns-in-err-verdict
-returns-in-err-verdict c = record { judged = search rules; one = one_verdict }
+pub returns-in_err-verdict : goal.returns-in_err-verdict
+returns-in_err-verdict c = record { judged = search rules; one = one_verdict }

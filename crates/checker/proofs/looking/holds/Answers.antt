@@ -23,8 +23,8 @@ returns-in-Some c =
     let run = c.args.ordered.now.run in
     let r = run_of run in
     let F : Option Counts → Type 0 = FirstOrNone r (signs_of run) in
-    let P : Answer → Type 0 = λ a. Decides c.is-cut.result (MayHolds r (signs_of run) (answer_of a)) in
+    let P : Answer → Type 0 = λ a. Decides c.is_cut.result (MayHolds r (signs_of run) (answer_of a)) in
     let Q : Answer → Type 0 = λ a. MayFits r (answer_of a) in
-    let R : List ℕ → Type 0 = λ xs. Decides c.is-cut.result ((k : ℕ) → k < length xs → counts_of c.in-Some.counts k ≡ get_or xs k 0) in
-    subst P (sym c.in-MayYes.is) (is_first r c.requires.order.sound.letters (signs_of run) c.in-Some.counts (vec_items c.in-MayYes.cut) c.is-cut.result
-    (subst F c.in-Some.is c.first-moment-first.ensures.first) (subst Q c.in-MayYes.is c.requires.form) (subst R c.deref.ensures.value c.is-cut.ensures))
+    let R : List ℕ → Type 0 = λ xs. Decides c.is_cut.result ((k : ℕ) → k < length xs → counts_of c.in-Some.counts k ≡ get_or xs k 0) in
+    subst P (sym c.in-MayYes.is) (is_first r c.requires.order.sound.letters (signs_of run) c.in-Some.counts (vec_items c.in-MayYes.cut) c.is_cut.result
+    (subst F c.in-Some.is c.first_moment-first.ensures.first) (subst Q c.in-MayYes.is c.requires.form) (subst R c.deref.ensures.value c.is_cut.ensures))

@@ -6,9 +6,9 @@ use Rattle.exhaustive.proofs.at_cut.sum_at.Goals as goal
 pub loop-machine-init : goal.loop-machine-init
 loop-machine-init c = (sym (sum_begin (amounts_of c.args.run.now) (counts_of c.args.cut)), omega arith)
 
-pub overflow-add-sum : goal.overflow-add-sum
-overflow-add-sum c = record { fits = omega (arith, c.loop-machine.invariant.1, c.from-sum.ensures, c.amount.type-inv, c.loop-machine-test.true, c.args.run.now.most) }
+pub overflow_add-sum : goal.overflow_add-sum
+overflow_add-sum c = record { fits = omega (arith, c.loop-machine.invariant.1, c.from-sum.ensures, c.amount.type_inv, c.loop-machine-test.true, c.args.run.now.most) }
 
 pub loop-machine-preserved : goal.loop-machine-preserved
 loop-machine-preserved c =
-    (omega (arith, c.loop-machine.invariant.0, c.from-sum.ensures, c.amount.ensures, sum_more c.loop-machine.machine (amounts_of c.args.run.now) (counts_of c.args.cut)), omega (arith, c.loop-machine.invariant.1, c.from-sum.ensures, c.amount.type-inv))
+    (omega (arith, c.loop-machine.invariant.0, c.from-sum.ensures, c.amount.ensures, sum_more c.loop-machine.machine (amounts_of c.args.run.now) (counts_of c.args.cut)), omega (arith, c.loop-machine.invariant.1, c.from-sum.ensures, c.amount.type_inv))

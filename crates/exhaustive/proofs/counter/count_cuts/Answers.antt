@@ -8,8 +8,8 @@ pub loop-machine-init : goal.loop-machine-init
 unfolding weight
 loop-machine-init c = (refl, omega arith)
 
-pub overflow-mul-cuts : goal.overflow-mul-cuts
-overflow-mul-cuts c =
+pub overflow_mul-cuts : goal.overflow_mul-cuts
+overflow_mul-cuts c =
     let did = counts_of c.args.run.now.did in
     let i = c.loop-machine.machine in
     let few : did i + 1 ≤ 501 = omega (arith, c.args.run.now.few i c.loop-machine-test.true) in

@@ -18,7 +18,7 @@ returns c =
       record {
         moments = count_all r f.moments seen.moments;
         may = first_all r (signs_of run) f.first seen.first;
-        must = must_unless r (linked run).range (signs_of run) c.in-ok-avoided.avoided c.in-ok-avoided.ensures;
+        must = must_unless r (linked run).range (signs_of run) c.in_ok-avoided.avoided c.in_ok-avoided.ensures;
         least = least_all r (amounts_of run) (counts_of f.least.at) seen.least;
         most = most_all r (amounts_of run) (counts_of f.most.at) seen.most;
         least_sum = seen.least_sum;

@@ -3,14 +3,14 @@ use Rattle.order.proofs.Recorded.{at_arm}
 use Rattle.exhaustive.proofs.Finding.{always, looked_at}
 use Rattle.exhaustive.proofs.looking.look_at_files.Goals as goal
 
-pub returns-in-err-asked : goal.returns-in-err-asked
-returns-in-err-asked c = record { replied = search rules; always = always }
+pub returns-in_err-asked : goal.returns-in_err-asked
+returns-in_err-asked c = record { replied = search rules; always = always }
 
 pub returns-in-Refused : goal.returns-in-Refused
-returns-in-Refused c = record { replied = λ whole alike. at_arm whole _ _ c.in-Refused.is (c.in-ok-asked.ensures whole alike); always = always }
+returns-in-Refused c = record { replied = λ whole alike. at_arm whole _ _ c.in-Refused.is (c.in_ok-asked.ensures whole alike); always = always }
 
-pub returns-in-err-looked : goal.returns-in-err-looked
-returns-in-err-looked c = record { replied = search rules; always = always }
+pub returns-in_err-looked : goal.returns-in_err-looked
+returns-in_err-looked c = record { replied = search rules; always = always }
 
 pub returns : goal.returns
-returns c = record { replied = λ whole alike. looked_at whole c.in-Run.matched c.in-Run.ordered c.in-ok-looked.looked (at_arm whole _ _ c.in-Run.is (c.in-ok-asked.ensures whole alike)) c.in-ok-looked.ensures; always = always }
+returns c = record { replied = λ whole alike. looked_at whole c.in-Run.matched c.in-Run.ordered c.in_ok-looked.looked (at_arm whole _ _ c.in-Run.is (c.in_ok-asked.ensures whole alike)) c.in_ok-looked.ensures; always = always }

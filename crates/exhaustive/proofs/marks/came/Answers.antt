@@ -11,16 +11,16 @@ pub loop-machine-init : goal.loop-machine-init
 unfolding weight
 loop-machine-init c = (refl, λ k lt. absurd (omega arith))
 
-pub overflow-sub-number : goal.overflow-sub-number
-overflow-sub-number c = omega (arith, c.requires.number, c.loop-machine.invariant.0, rank_back (run_of c.args.run.now) (counts_of c.args.cut) c.loop-machine.machine c.loop-machine-test.true c.if-cut-machine-gt0.true)
+pub overflow_sub-number : goal.overflow_sub-number
+overflow_sub-number c = omega (arith, c.requires.number, c.loop-machine.invariant.0, rank_back (run_of c.args.run.now) (counts_of c.args.cut) c.loop-machine.machine c.loop-machine-test.true c.if-cut-machine-gt0.true)
 
 pub bounds-marks-number : goal.bounds-marks-number
 bounds-marks-number c =
     let r = run_of c.args.run.now in
     omega (arith, c.requires.number, c.requires.long, rank_within r.did r.count (counts_of c.args.cut) c.requires.inside)
 
-pub overflow-mul-weight : goal.overflow-mul-weight
-overflow-mul-weight c =
+pub overflow_mul-weight : goal.overflow_mul-weight
+overflow_mul-weight c =
     let run = c.args.run.now in
     let did = counts_of run.did in
     let i = c.loop-machine.machine in

@@ -12,10 +12,10 @@ use Rattle.exhaustive.proofs.marks.can_avoid.Goals as goal
 pub loop-number-init : goal.loop-number-init
 loop-number-init c =
     let r = run_of c.args.run.now in
-    let marks = c.in-ok-marks.marks in
+    let marks = c.in_ok-marks.marks in
     let none = c.none-cut.ensures in (
       λ d inside lt. absurd (omega arith),
-      marks.ok.0 ∙ ap length (c.in-ok-marks.ensures.items-if-clones-equal (λ y h. h)) ∙ length-replicate c.args.cuts false,
+      marks.ok.0 ∙ ap length (c.in_ok-marks.ensures.items-if-clones-equal (λ y h. h)) ∙ length-replicate c.args.cuts false,
       λ i lt. omega (arith, none i),
       λ _. rank_none r.did r.count (counts_of c.none-cut.result) (λ i lt. none i),
     )
@@ -30,16 +30,16 @@ loop-number-preserved c =
     let cut = counts_of c.loop-number.cut in
     let at : rank_of r cut ≡ n = inv.3 c.loop-number-test.true in
     let P : ℕ → Type 0 = Marked r (signs_of run) marks in
-    let Q : ℕ → Type 0 = λ k. Marked r (signs_of run) (set marks k c.comes-to-comes.result) (k + 1) in
+    let Q : ℕ → Type 0 = λ k. Marked r (signs_of run) (set marks k c.comes_to-comes.result) (k + 1) in
     let within : rank_of r cut < length marks = omega (arith, at, c.loop-number-test.true, inv.1, c.loop-number.marks.ok.0) in (
-      subst Q at (mark_more r (linked run).range (signs_of run) marks cut inv.2 (subst P (sym at) inv.0) c.comes-to-comes.result within c.comes-to-comes.ensures),
+      subst Q at (mark_more r (linked run).range (signs_of run) marks cut inv.2 (subst P (sym at) inv.0) c.comes_to-comes.result within c.comes_to-comes.ensures),
       inv.1,
       c.following-cut.ensures.after.inside,
       λ more. elim c.following-cut.ensures.after.next [ inl next ↦ next ∙ ap (λ (x : ℕ). x + 1) at | inr last ↦ absurd (omega (arith, last, at, more, c.requires.cuts)) ],
     )
 
-pub overflow-sub-cuts : goal.overflow-sub-cuts
-overflow-sub-cuts c = let r = run_of c.args.run.now in omega (arith, c.requires.cuts, weight_some r.did r.count)
+pub overflow_sub-cuts : goal.overflow_sub-cuts
+overflow_sub-cuts c = let r = run_of c.args.run.now in omega (arith, c.requires.cuts, weight_some r.did r.count)
 
 pub index-requires : goal.index-requires
 index-requires c = let r = run_of c.args.run.now in omega (arith, c.loop-number.invariant.1, c.requires.cuts, weight_some r.did r.count)

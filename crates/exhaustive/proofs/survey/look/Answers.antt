@@ -9,15 +9,15 @@ use Rattle.exhaustive.specs.Survey.{FirstAmong, none}
 use Rattle.exhaustive.proofs.Surveying.{count_same, count_more, first_same, first_more, best_same, lesser, greater}
 use Rattle.exhaustive.proofs.survey.look.Goals as goal
 
-pub returns-then-not-is-moment : goal.returns-then-not-is-moment
-returns-then-not-is-moment c =
+pub returns-then-not-is_moment : goal.returns-then-not-is_moment
+returns-then-not-is_moment c =
     let run = c.args.run.now in
     let r = run_of run in
     let w = amounts_of run in
     let cut = counts_of c.args.cut in
     let done = (linked run).range in
     let seen = c.requires.seen in
-    let never : Moment r cut → ⊥ = λ m. both_ways c.is-moment.result c.if-not-is-moment.true (c.is-moment.ensures.decides.1 m) in
+    let never : Moment r cut → ⊥ = λ m. both_ways c.is_moment.result c.if-not-is_moment.true (c.is_moment.ensures.decides.1 m) in
     record {
       moments = count_same r done cut c.requires.inside c.args.seen.moments never seen.moments;
       few = omega (arith, seen.few);
@@ -36,14 +36,14 @@ returns c =
     let k = c.args.cut in
     let done = (linked run).range in
     let seen = c.requires.seen in
-    let m : Moment r (counts_of k) = c.is-moment.ensures.decides.0 c.if-not-is-moment.false in
+    let m : Moment r (counts_of k) = c.is_moment.ensures.decides.0 c.if-not-is_moment.false in
     let P : Option Counts → Type 0 = FirstAmong r (signs_of run) (rank_of r (counts_of k) + 1) in
-    let least = lesser r done k c.requires.inside m w c.args.seen.least c.or-less.result c.sum-at.result c.or-less.ensures c.sum-at.ensures seen.least_sum seen.least in
-    let most = greater r done k c.requires.inside m w c.args.seen.most c.or-more.result c.sum-at.result c.or-more.ensures c.sum-at.ensures seen.most_sum seen.most in
+    let least = lesser r done k c.requires.inside m w c.args.seen.least c.or_less.result c.sum_at.result c.or_less.ensures c.sum_at.ensures seen.least_sum seen.least in
+    let most = greater r done k c.requires.inside m w c.args.seen.most c.or_more.result c.sum_at.result c.or_more.ensures c.sum_at.ensures seen.most_sum seen.most in
     record {
       moments = count_more r done (counts_of k) c.requires.inside c.args.seen.moments m seen.moments;
       few = omega (arith, seen.few);
-      first = subst P (sym c.first-of.ensures) (first_more r done (counts_of k) c.requires.inside (signs_of run) c.args.seen.first k c.all-yes.result refl m c.all-yes.ensures seen.first);
+      first = subst P (sym c.first_of.ensures) (first_more r done (counts_of k) c.requires.inside (signs_of run) c.args.seen.first k c.all_yes.result refl m c.all_yes.ensures seen.first);
       least = least.0;
       most = most.0;
       least_sum = least.1;

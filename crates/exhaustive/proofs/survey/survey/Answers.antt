@@ -26,8 +26,8 @@ loop-init c =
         first = λ d a all. omega (arith, a.1);
         least = best w none;
         most = best none w;
-        least_sum = c.sum-at.ensures;
-        most_sum = c.sum-at.ensures;
+        least_sum = c.sum_at.ensures;
+        most_sum = c.sum_at.ensures;
       },
       m.inside,
       λ _. first,

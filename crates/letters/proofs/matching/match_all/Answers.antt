@@ -8,24 +8,24 @@ use Rattle.letters.proofs.matching.match_all.Goals as goal
 pub loop-i-init : goal.loop-i-init
 loop-i-init c = nothing_yet (records_of c.args.records.now) (vec_items c.new-letters.result) c.new-letters.ensures.items
 
-pub overflow-cast-i : goal.overflow-cast-i
-overflow-cast-i c = record { fits = omega (arith, length-map c.args.records.now record_of, c.requires.few.0) }
+pub overflow_cast-i : goal.overflow_cast-i
+overflow_cast-i c = record { fits = omega (arith, length-map c.args.records.now record_of, c.requires.few.0) }
 
-pub match-machine-requires : goal.match-machine-requires
-match-machine-requires c =
+pub match_machine-requires : goal.match_machine-requires
+match_machine-requires c =
     record { short = omega (arith, c.requires.few.1 c.loop-i.i, ap length (part_is c.args.records.now c.loop-i.i c.index-records-i.result c.deref.result.now (omega arith) c.deref.ensures.value)) }
 
 pub returns-in-Some : goal.returns-in-Some
 returns-in-Some c = (
   c.requires.noted.once,
-  matched_to c.args.records.now c.loop-i.i c.index-records-i.result c.deref.result.now c.args.seen.now (vec_items c.loop-i.letters) (vec_items c.match-machine.new.letters) _ _
-      (omega arith) c.deref.ensures.value c.in-Some.is c.in-ok-unsent.ensures c.requires.noted c.loop-i.invariant,
+  matched_to c.args.records.now c.loop-i.i c.index-records-i.result c.deref.result.now c.args.seen.now (vec_items c.loop-i.letters) (vec_items c.match_machine.new.letters) _ _
+      (omega arith) c.deref.ensures.value c.in-Some.is c.in_ok-unsent.ensures c.requires.noted c.loop-i.invariant,
 )
 
 pub loop-i-preserved : goal.loop-i-preserved
 loop-i-preserved c =
-    matched_to c.args.records.now c.loop-i.i c.index-records-i.result c.deref.result.now c.args.seen.now (vec_items c.loop-i.letters) (vec_items c.match-machine.new.letters) _ _
-    (omega arith) c.deref.ensures.value c.in-default.is c.in-ok-unsent.ensures c.requires.noted c.loop-i.invariant
+    matched_to c.args.records.now c.loop-i.i c.index-records-i.result c.deref.result.now c.args.seen.now (vec_items c.loop-i.letters) (vec_items c.match_machine.new.letters) _ _
+    (omega arith) c.deref.ensures.value c.in_default.is c.in_ok-unsent.ensures c.requires.noted c.loop-i.invariant
 
 pub returns : goal.returns
 returns c = matched (records_of c.args.records.now) c.args.seen.now (vec_items c.loop-i.letters) c.loop-i.i (omega (arith, length-map c.args.records.now record_of)) c.requires.noted c.loop-i.invariant

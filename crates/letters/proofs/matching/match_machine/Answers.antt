@@ -4,20 +4,20 @@ use Rattle.letters.proofs.Machines.{kind_is}
 use Rattle.letters.proofs.Linking.{skip, link, first_unsent, on, not_gets}
 use Rattle.letters.proofs.matching.match_machine.Goals as goal
 
-pub loop-k-preserved-in-default : goal.loop-k-preserved-in-default
-loop-k-preserved-in-default c = λ rs part noted linked.
+pub loop-k-preserved-in_default : goal.loop-k-preserved-in_default
+loop-k-preserved-in_default c = λ rs part noted linked.
     skip rs (vec_items c.loop-k.letters) c.args.machine (c.loop-k.k + 1) (c.loop-k.invariant rs part noted linked)
-    (λ l e. not_gets _ c.in-default.not-Gets l (sym (kind_is rs c.args.machine c.loop-k.k c.args.doings.now _ part (omega arith)) ∙ e))
+    (λ l e. not_gets _ c.in_default.not-Gets l (sym (kind_is rs c.args.machine c.loop-k.k c.args.doings.now _ part (omega arith)) ∙ e))
 
-pub returns-in-default-sender : goal.returns-in-default-sender
-returns-in-default-sender c = λ rs part noted linked.
+pub returns-in_default-sender : goal.returns-in_default-sender
+returns-in_default-sender c = λ rs part noted linked.
     first_unsent rs c.args.seen.now (vec_items c.loop-k.letters) c.args.machine (c.loop-k.k + 1) c.in-Gets.letter noted (c.loop-k.invariant rs part noted linked)
-    (kind_is rs c.args.machine c.loop-k.k c.args.doings.now _ part (omega arith) ∙ c.in-Gets.is) c.in-default-sender.ensures
+    (kind_is rs c.args.machine c.loop-k.k c.args.doings.now _ part (omega arith) ∙ c.in-Gets.is) c.in_default-sender.ensures
 
 pub loop-k-preserved : goal.loop-k-preserved
 loop-k-preserved c = λ rs part noted linked.
     link rs (vec_items c.loop-k.letters) (vec_items c.push.new.self) _ c.args.machine (c.loop-k.k + 1) c.in-Gets.letter (c.loop-k.invariant rs part noted linked)
-    c.in-ok-push.ensures.items (noted.is (Sends c.in-Gets.letter) c.in-Some.sender (sym c.in-Some.ensures)) refl refl
+    c.in_ok-push.ensures.items (noted.is (Sends c.in-Gets.letter) c.in-Some.sender (sym c.in-Some.ensures)) refl refl
     (kind_is rs c.args.machine c.loop-k.k c.args.doings.now _ part (omega arith) ∙ c.in-Gets.is)
 
 pub returns : goal.returns

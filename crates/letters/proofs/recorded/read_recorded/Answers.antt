@@ -10,13 +10,13 @@ use Rattle.letters.proofs.recorded.read_recorded.Goals as goal
 at_arm : (fs : List (List ℕ)) (x y : Files) → x ≡ y → FilesRead fs x → FilesRead fs y
 at_arm fs x y e h = let P : Files → Type 0 = FilesRead fs in subst P e h
 
-pub match-letters-requires : goal.match-letters-requires
-match-letters-requires c =
+pub match_letters-requires : goal.match_letters-requires
+match_letters-requires c =
     let P : List Record → Type 0 = λ z. Few (records_of z) in
-    let read = at_arm (files_of c.args.files.now) _ _ c.in-Whole.is (c.in-ok-read.ensures (files_of c.args.files.now) refl) in
+    let read = at_arm (files_of c.args.files.now) _ _ c.in-Whole.is (c.in_ok-read.ensures (files_of c.args.files.now) refl) in
     record { few = subst P (sym c.deref.ensures.value) (read.few, read.short) }
 
 pub invariant-of-result : goal.invariant-of-result
 invariant-of-result c =
-    let read = at_arm (files_of c.args.files.now) _ _ c.in-Whole.is (c.in-ok-read.ensures (files_of c.args.files.now) refl) in
+    let read = at_arm (files_of c.args.files.now) _ _ c.in-Whole.is (c.in_ok-read.ensures (files_of c.args.files.now) refl) in
     (read.few, (read.short, tt))

@@ -19,17 +19,17 @@ sign-requires c = record { inside = c.loop-machine-test.true; done = c.loop-mach
 pub loop-machine-preserved : goal.loop-machine-preserved
 loop-machine-preserved c = (c.loop-machine.invariant.0, c.loop-machine.invariant.1, below_more _ _ c.loop-machine.invariant.2 (sym c.if-sign.ensures))
 
-pub returns-in-default : goal.returns-in-default
-returns-in-default c =
+pub returns-in_default : goal.returns-in_default
+returns-in_default c =
     let so_far = c.loop-machine.invariant.1 in
     record {
-      first = over so_far c.loop-machine.machine c.loop-machine-test.true (sym c.if-sign.ensures) c.in-default.ensures;
+      first = over so_far c.loop-machine.machine c.loop-machine-test.true (sym c.if-sign.ensures) c.in_default.ensures;
       few = few_pairs so_far;
       compared = record {
         joins = so_far.made.0;
         cut = counts_of c.loop-machine.search.cut;
         searched = so_far.made.1;
-        ends = (c.loop-machine.machine, record { inside = c.loop-machine-test.true; below = c.loop-machine.invariant.2; here = sym c.if-sign.ensures }, c.in-default.ensures);
+        ends = (c.loop-machine.machine, record { inside = c.loop-machine-test.true; below = c.loop-machine.invariant.2; here = sym c.if-sign.ensures }, c.in_default.ensures);
         each = so_far.made.2;
       };
     }

@@ -6,7 +6,7 @@ use Rattle.runs.proofs.Linked.{linked}
 use Rattle.order.proofs.Behind.{moment_ready, ready_moment}
 use Rattle.moments.proofs.Laws.{lattice, by_before}
 use Rattle.moments.proofs.moment.is_moment.Goals as goal
-use Rattle.moments.proofs.moment.is_moment.Goals.{then-run-machine-via-then-run-machine, then-run-machine-via-else-run-machine+then-not-is-closed}
+use Rattle.moments.proofs.moment.is_moment.Goals.{then-run-machine-via-then-run-machine, then-run-machine-via-else-run-machine+then-not-is_closed}
 
 pub returns-then-run-machine : goal.returns-then-run-machine
 returns-then-run-machine c =
@@ -15,7 +15,7 @@ returns-then-run-machine c =
     let none : Moment (run_of run) (counts_of c.args.cut) → ⊥ = λ moment.
     elim c.then-run-machine.branch [
       | then-run-machine-via-then-run-machine w ↦ omega (arith, w.if-run-machine.true, moment.inside j c.loop-machine-test.true)
-      | then-run-machine-via-else-run-machine+then-not-is-closed w ↦ both_ways w.is-closed.result w.if-not-is-closed.true (w.is-closed.ensures.1 (λ m one m≤. moment_ready (linked run) moment j m c.loop-machine-test.true one m≤))
+      | then-run-machine-via-else-run-machine+then-not-is_closed w ↦ both_ways w.is_closed.result w.if-not-is_closed.true (w.is_closed.ensures.1 (λ m one m≤. moment_ready (linked run) moment j m c.loop-machine-test.true one m≤))
     ] in
     record { decides = (λ never. absurd (both_ways false refl never), λ moment. absurd (none moment)); lattice = lattice; before = by_before }
 

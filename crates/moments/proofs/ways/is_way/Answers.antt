@@ -32,11 +32,11 @@ returns-then-run-machine c =
     let js = c.args.turns.now in
     never (λ way. omega (arith, c.if-run-machine.true, (trail_parts (left run js c.loop-turn.turn-index (counts_of c.loop-turn.cut) c.loop-turn-test.true (c.loop-turn.invariant.1 (path_trail js nothing way)))).0))
 
-pub returns-in-default : goal.returns-in-default
-returns-in-default c =
+pub returns-in_default : goal.returns-in_default
+returns-in_default c =
     let run = run_of c.args.run.now in
     let js = c.args.turns.now in
-    never (λ way. c.in-default.ensures (trail_parts (left run js c.loop-turn.turn-index (counts_of c.loop-turn.cut) c.loop-turn-test.true (c.loop-turn.invariant.1 (path_trail js nothing way)))).1)
+    never (λ way. c.in_default.ensures (trail_parts (left run js c.loop-turn.turn-index (counts_of c.loop-turn.cut) c.loop-turn-test.true (c.loop-turn.invariant.1 (path_trail js nothing way)))).1)
 
 pub loop-turn-preserved : goal.loop-turn-preserved
 loop-turn-preserved c =
@@ -58,6 +58,6 @@ returns c =
     let js = c.args.turns.now in
     let Q : List ℕ → Type 0 = Trail run run.did (counts_of c.loop-turn.cut) in
     let none : drop c.loop-turn.turn-index js ≡ [] = drop_all c.loop-turn.turn-index js c.loop-turn-test.false in (
-      λ end. trail_path (c.loop-turn.invariant.2 (subst Q (sym none) (here c.loop-turn.invariant.0 (c.is-end.ensures.0 end)))),
-      λ way. c.is-end.ensures.1 (trail_end (subst Q none (c.loop-turn.invariant.1 (path_trail js nothing way)))),
+      λ end. trail_path (c.loop-turn.invariant.2 (subst Q (sym none) (here c.loop-turn.invariant.0 (c.is_end.ensures.0 end)))),
+      λ way. c.is_end.ensures.1 (trail_end (subst Q none (c.loop-turn.invariant.1 (path_trail js nothing way)))),
     )

@@ -13,8 +13,8 @@ use Rattle.moments.proofs.ways.lead.Goals.{In-Some}
 pub loop-step-init : goal.loop-step-init
 loop-step-init c = (c.requires.from, c.requires.below, ([], sym (append-nil (vec_items c.args.turns.now)), here c.requires.from (λ i lt. refl)))
 
-pub returns-in-err-push : goal.returns-in-err-push
-returns-in-err-push c = record { leads = search rules; toward = toward; onward = goes_on; way = on_a_way }
+pub returns-in_err-push : goal.returns-in_err-push
+returns-in_err-push c = record { leads = search rules; toward = toward; onward = goes_on; way = on_a_way }
 
 -- one doing more, and no further than is to be gone
 after : (c : In-Some) → Below (run_of c.args.run.now) (go_on (counts_of c.loop-step.cut) c.in-Some.step.machine) (counts_of c.args.to)
@@ -51,7 +51,7 @@ loop-step-preserved c =
       subst P (sym told.2) (after (goal.at.loop-step-preserved c).In-Some),
       (
         inv.2.0 ++ j ∷ [],
-        c.in-ok-push.ensures.items ∙ ap (λ (xs : List ℕ). xs ++ j ∷ []) inv.2.1 ∙ append_assoc (vec_items c.args.turns.now) inv.2.0 (j ∷ []),
+        c.in_ok-push.ensures.items ∙ ap (λ (xs : List ℕ). xs ++ j ∷ []) inv.2.1 ∙ append_assoc (vec_items c.args.turns.now) inv.2.0 (j ∷ []),
         subst Q (sym told.2) (trail_on c.requires.sound.letters inv.2.2 j told.0 next),
       ),
     )
@@ -62,7 +62,7 @@ returns c =
     let inv = c.loop-step.invariant in
     let to = counts_of c.args.to in
     record {
-      leads = (inv.2.0, inv.2.1, trail_leads (trail_to inv.2.2 to (arrived run c.requires.sound (counts_of c.loop-step.cut) to inv.0 c.requires.to inv.1 c.in-default.ensures)));
+      leads = (inv.2.0, inv.2.1, trail_leads (trail_to inv.2.2 to (arrived run c.requires.sound (counts_of c.loop-step.cut) to inv.0 c.requires.to inv.1 c.in_default.ensures)));
       toward = toward;
       onward = goes_on;
       way = on_a_way;

@@ -15,7 +15,7 @@ use Rattle.order.proofs.ordering.order_run.Goals as goal
 pub fill-requires : goal.fill-requires
 fill-requires c =
     let run = c.args.run in
-    let items : c.deref-mut.result.now ≡ replicate c.len.result c.none.result = c.deref-mut.ensures.value ∙ c.in-ok-rows.ensures.items-if-clones-equal (λ y h. h) in
+    let items : c.deref_mut.result.now ≡ replicate c.len.result c.none.result = c.deref_mut.ensures.value ∙ c.in_ok-rows.ensures.items-if-clones-equal (λ y h. h) in
     record {
       empty = c.new-turns.ensures.items;
       long = ap length items ∙ length-replicate c.len.result c.none.result ∙ c.len.ensures;
@@ -28,16 +28,16 @@ fill-requires c =
 pub returns-in-Some : goal.returns-in-Some
 returns-in-Some c =
     let late = c.in-Some.ensures in
-    let filled = c.in-ok-progress.ensures in
-    (refl, record { ring = ring (run_of c.args.run) (sending_of c.args.run) (counts_of c.in-ok-progress.progress.cut) (linked c.args.run) filled.waits c.in-Some.field-0 late.0 late.1; beyond = filled.done.no_ring })
+    let filled = c.in_ok-progress.ensures in
+    (refl, record { ring = ring (run_of c.args.run) (sending_of c.args.run) (counts_of c.in_ok-progress.progress.cut) (linked c.args.run) filled.waits c.in-Some.field-0 late.0 late.1; beyond = filled.done.no_ring })
 
 pub returns-in-None : goal.returns-in-None
 returns-in-None c =
     let run = c.args.run in
-    let cut = counts_of c.in-ok-progress.progress.cut in
-    let filled = c.in-ok-progress.ensures in
+    let cut = counts_of c.in_ok-progress.progress.cut in
+    let filled = c.in_ok-progress.ensures in
     let all = done_all (linked run) run.some filled.done c.in-None.ensures in
-    let same : (with_items c.in-ok-rows.rows c.fill.new.rows).items ≡ c.fill.new.rows = with_items_is c.in-ok-rows.rows c.fill.new.rows (omega (arith, c.fill.auto.rows, c.deref-mut.ensures.len)) in
+    let same : (with_items c.in_ok-rows.rows c.fill.new.rows).items ≡ c.fill.new.rows = with_items_is c.in_ok-rows.rows c.fill.new.rows (omega (arith, c.fill.auto.rows, c.deref_mut.ensures.len)) in
     let P : List Counts → Type 0 = λ rows. VectorsOf (run_of run) (vectors_in run rows) in
     let at_end : (i : ℕ) → i < run.count → cut i ≡ counts_of run.did i = λ i lt. omega (arith, c.in-None.ensures i lt, filled.done.moment.inside i lt) in (
       refl,

@@ -16,7 +16,7 @@ anew-init c =
 pub anew-preserved : goal.anew-preserved
 anew-preserved c =
     let told = c.in-Some.ensures in
-    (turns_more (vec_items c.loop-machine.turns) (vec_items c.push.new.self) c.loop-machine.machine (counts_of c.loop-machine.so_far.cut) (counts_of c.in-Some.further.cut) c.loop-machine.invariant.1 c.in-ok-push.ensures.items c.loop-machine-test.true told.one told.others told.done.moment, told.done, told.joined)
+    (turns_more (vec_items c.loop-machine.turns) (vec_items c.push.new.self) c.loop-machine.machine (counts_of c.loop-machine.so_far.cut) (counts_of c.in-Some.further.cut) c.loop-machine.invariant.1 c.in_ok-push.ensures.items c.loop-machine-test.true told.one told.others told.done.moment, told.done, told.joined)
 
 pub anew-smaller : goal.anew-smaller
 anew-smaller c =

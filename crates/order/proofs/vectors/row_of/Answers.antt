@@ -11,7 +11,7 @@ sending c = sent_range (linked c.args.run.now) c.in-Some.sent c.args.machine c.a
 pub bounds-cut-from : goal.bounds-cut-from
 bounds-cut-from c = omega (arith, (sending (goal.at.bounds-cut-from c).In-Some).0)
 
-pub row-at-requires : goal.row-at-requires
-row-at-requires c =
-    let range = sending (goal.at.row-at-requires c).In-Some in
+pub row_at-requires : goal.row_at-requires
+row_at-requires c =
+    let range = sending (goal.at.row_at-requires c).In-Some in
     record { inside = range.0; done = range.1; long = c.requires.long }

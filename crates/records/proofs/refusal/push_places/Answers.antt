@@ -17,8 +17,8 @@ loop-k-preserved c =
     let ps = c.args.places.now in
     let k = c.loop-k.k in
     let p : Place = get_or ps k (record { machine = 0; doing = 0 }) in
-    c.in-ok-extend-from-slice.ensures.items ∙ ap (λ (x : List ℕ). x ++ c.place-bytes.result) c.loop-k.invariant ∙ append_assoc start (places_bytes (take k ps)) c.place-bytes.result
-    ∙ ap (λ (x : List ℕ). start ++ (places_bytes (take k ps) ++ x)) c.place-bytes.ensures ∙ ap (λ (x : List ℕ). start ++ x) (sym (bytes_push (take k ps) p)) ∙ ap (λ (x : List Place). start ++ places_bytes x) (sym (take_more ps k (record { machine = 0; doing = 0 }) c.loop-k-test.true))
+    c.in_ok-extend_from_slice.ensures.items ∙ ap (λ (x : List ℕ). x ++ c.place_bytes.result) c.loop-k.invariant ∙ append_assoc start (places_bytes (take k ps)) c.place_bytes.result
+    ∙ ap (λ (x : List ℕ). start ++ (places_bytes (take k ps) ++ x)) c.place_bytes.ensures ∙ ap (λ (x : List ℕ). start ++ x) (sym (bytes_push (take k ps) p)) ∙ ap (λ (x : List Place). start ++ places_bytes x) (sym (take_more ps k (record { machine = 0; doing = 0 }) c.loop-k-test.true))
 
 pub returns : goal.returns
 returns c = c.loop-k.invariant ∙ ap (λ (x : List Place). vec_items c.args.out.now ++ places_bytes x) (take_all c.loop-k.k c.args.places.now (omega arith))

@@ -11,4 +11,4 @@ pub returns : goal.returns
 returns c = λ was.
     begin_one was c.args.by.now c.reset.new.dist _ (vec_items c.push.new.self) c.args.s c.args.top c.reset.ensures c.requires.low
     c.requires.inside (omega arith) (omega arith) (omega (arith, c.requires.dists, c.reset.auto.dist)) refl
-    (c.in-ok-push.ensures.items ∙ ap (λ (x : List ℕ). x ++ (get_or c.args.by.now c.args.s 0 ∷ [])) c.new-first.ensures.items)
+    (c.in_ok-push.ensures.items ∙ ap (λ (x : List ℕ). x ++ (get_or c.args.by.now c.args.s 0 ∷ [])) c.new-first.ensures.items)

@@ -12,10 +12,10 @@ returns-then-best-le1 c = pass_one c.args.was.now c.args.by.now c.args.t c.args.
 
 pub returns-then-fewest-best : goal.returns-then-fewest-best
 returns-then-fewest-best c =
-    pass_far c.args.was.now c.args.by.now c.args.t c.args.best c.requires.shortest (far c.measure.new.dist c.args.best.fewest) c.in-ok-measure.ensures
+    pass_far c.args.was.now c.args.by.now c.args.t c.args.best c.requires.shortest (far c.measure.new.dist c.args.best.fewest) c.in_ok-measure.ensures
     (omega (arith, c.if-fewest-best.true, get_or_default c.measure.new.dist c.args.t 0 c.args.best.fewest (omega (arith, c.measure.auto.dist, c.requires.dists, c.requires.here))))
 
 pub returns : goal.returns
 returns c =
-    take_it c.args.was.now c.args.by.now c.args.t c.args.best c.requires.shortest (far c.measure.new.dist c.args.best.fewest) (get_or c.measure.new.dist c.args.t 0) c.in-ok-measure.ensures
+    take_it c.args.was.now c.args.by.now c.args.t c.args.best c.requires.shortest (far c.measure.new.dist c.args.best.fewest) (get_or c.measure.new.dist c.args.t 0) c.in_ok-measure.ensures
     (get_or_default c.measure.new.dist c.args.t 0 c.args.best.fewest (omega (arith, c.measure.auto.dist, c.requires.dists, c.requires.here))) c.if-fewest-best.false

@@ -8,10 +8,10 @@ measure-requires c =
     let s = start_within c.args.was.now c.args.by.now c.args.best c.requires.shortest c.requires.known in
     record { flags = c.requires.flags; dists = c.requires.dists; inside = s; low = omega (arith, some_fewest c.args.was.now c.args.by.now c.args.best c.requires.shortest c.requires.known); small = omega (arith, c.requires.known, c.requires.few) }
 
-pub way-back-requires : goal.way-back-requires
-way-back-requires c =
+pub way_back-requires : goal.way_back-requires
+way_back-requires c =
     let b = c.args.best in
-    let x = c.in-ok-measure.ensures in
+    let x = c.in_ok-measure.ensures in
     record {
       sizes = record { flags = c.requires.flags; dists = omega (arith, c.measure.auto.dist, c.requires.dists); inside = start_within c.args.was.now c.args.by.now b c.requires.shortest c.requires.known };
       exact = x;
@@ -21,5 +21,5 @@ way-back-requires c =
 pub returns : goal.returns
 returns c =
     let b = c.args.best in
-    let w = c.in-ok-rest.ensures in
-    found c.args.was.now c.args.by.now b c.requires.shortest (far c.measure.new.dist (b.fewest + 1)) (vec_items c.in-ok-rest.rest) c.requires.known c.in-ok-measure.ensures w.0 w.1
+    let w = c.in_ok-rest.ensures in
+    found c.args.was.now c.args.by.now b c.requires.shortest (far c.measure.new.dist (b.fewest + 1)) (vec_items c.in_ok-rest.rest) c.requires.known c.in_ok-measure.ensures w.0 w.1

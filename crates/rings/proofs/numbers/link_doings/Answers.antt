@@ -11,8 +11,8 @@ use Rattle.rings.proofs.numbers.link_doings.Goals as goal
 pub loop-w-init : goal.loop-w-init
 loop-w-init c = linked_none c.args.run.now (vec_items c.args.numbers.now.places) c.args.numbers.now.begins (vec_items c.new-was.result) (vec_items c.new-by.result) c.new-was.ensures.items c.new-by.ensures.items
 
-pub number-of-sending-requires : goal.number-of-sending-requires
-number-of-sending-requires c =
+pub number_of_sending-requires : goal.number_of_sending-requires
+number_of_sending-requires c =
     let places = vec_items c.args.numbers.now.places in
     let lt = c.loop-w-test.true in
     let is : place_of places c.loop-w.w ≡ c.index-place.result.now = sym (c.index-place.ensures ∙ get_or_default places c.loop-w.w c.index-place.result.now (at 0 0) (omega (arith, c.len-size.ensures, c.args.numbers.now.places.ok.0))) in
@@ -27,9 +27,9 @@ loop-w-preserved c =
     let begins = c.args.numbers.now.begins in
     let size : c.len-size.result ≡ length places = c.len-size.ensures ∙ c.args.numbers.now.places.ok.0 in
     let is : c.index-place.result.now ≡ place_of places c.loop-w.w = c.index-place.ensures ∙ get_or_default places c.loop-w.w c.index-place.result.now (at 0 0) (omega arith) in
-    linked_more run places begins c.loop-w.w (vec_items c.loop-w.was) (vec_items c.push.new.self) (vec_items c.loop-w.by) (vec_items c.push-in-loop-w.new.self) (ltb 1 c.index-place.result.now.doing) c.number-of-sending.result c.loop-w.invariant
-    c.in-ok-push.ensures.items c.in-ok-push-2.ensures.items (ap (λ (p : Place). ltb 1 p.doing) is)
-    (c.number-of-sending.ensures ∙ ap (λ (n : ℕ). number_of begins n (sending_of run c.index-place.result.now.machine c.index-place.result.now.doing)) size ∙ ap (λ (p : Place). number_of begins (length places) (sending_of run p.machine p.doing)) is)
+    linked_more run places begins c.loop-w.w (vec_items c.loop-w.was) (vec_items c.push.new.self) (vec_items c.loop-w.by) (vec_items c.push-in-loop-w.new.self) (ltb 1 c.index-place.result.now.doing) c.number_of_sending.result c.loop-w.invariant
+    c.in_ok-push.ensures.items c.in_ok-push-2.ensures.items (ap (λ (p : Place). ltb 1 p.doing) is)
+    (c.number_of_sending.ensures ∙ ap (λ (n : ℕ). number_of begins n (sending_of run c.index-place.result.now.machine c.index-place.result.now.doing)) size ∙ ap (λ (p : Place). number_of begins (length places) (sending_of run p.machine p.doing)) is)
 
 pub returns : goal.returns
 returns c =

@@ -6,12 +6,12 @@ use Rattle.rings.proofs.numbers.number_doings.Goals as goal
 pub loop-i-init : goal.loop-i-init
 loop-i-init c = numbered_none c.args.run.now (vec_items c.new-places.result) c.none-begins.result c.new-places.ensures.items
 
-pub overflow-cast-len : goal.overflow-cast-len
-overflow-cast-len c =
+pub overflow_cast-len : goal.overflow_cast-len
+overflow_cast-len c =
     let run = c.args.run.now in
     record { fits = omega (arith, c.len.ensures, c.loop-i.places.ok.0, ap length c.loop-i.invariant.items, in_long (counts_of run.did) c.loop-i.i (λ i lt. run.few i (omega arith)), run.most) }
 
 pub loop-i-preserved : goal.loop-i-preserved
 loop-i-preserved c =
-    numbered_more c.args.run.now c.loop-i.i c.len.result (vec_items c.loop-i.places) (vec_items c.push-machine.new.places) c.loop-i.begins c.with-begins.result c.loop-i.invariant (omega (arith, c.args.run.now.most))
-    c.with-begins.ensures (c.len.ensures ∙ c.loop-i.places.ok.0) c.in-ok-push-machine.ensures
+    numbered_more c.args.run.now c.loop-i.i c.len.result (vec_items c.loop-i.places) (vec_items c.push_machine.new.places) c.loop-i.begins c.with-begins.result c.loop-i.invariant (omega (arith, c.args.run.now.most))
+    c.with-begins.ensures (c.len.ensures ∙ c.loop-i.places.ok.0) c.in_ok-push_machine.ensures

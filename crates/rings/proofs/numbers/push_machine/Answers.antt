@@ -12,7 +12,7 @@ loop-m-preserved c =
     let start = vec_items c.args.places.now in
     let i = c.args.machine in
     let m = c.loop-m.m in
-    c.in-ok-push.ensures.items ∙ ap (λ (x : List Place). x ++ (at i (m + 1) ∷ [])) c.loop-m.invariant ∙ append_assoc start (places_of i m) (at i (m + 1) ∷ [])
+    c.in_ok-push.ensures.items ∙ ap (λ (x : List Place). x ++ (at i (m + 1) ∷ [])) c.loop-m.invariant ∙ append_assoc start (places_of i m) (at i (m + 1) ∷ [])
     ∙ ap (λ (k : ℕ). start ++ (places_of i m ++ (at i k ∷ []))) (add-one m) ∙ ap (λ (k : ℕ). start ++ places_of i k) (sym (add-one m))
 
 pub returns : goal.returns

@@ -3,8 +3,8 @@ use Rattle.rings.specs.Links.{Going}
 use Rattle.rings.proofs.Going.{going_start}
 use Rattle.rings.proofs.way.way_back.Goals as goal
 
-pub go-on-requires : goal.go-on-requires
-go-on-requires c =
+pub go_on-requires : goal.go_on-requires
+go_on-requires c =
     let P : List ℕ → Type 0 = λ z. Going c.args.was.now c.args.by.now c.args.dist.now c.args.s c.args.top c.args.s (get_or c.args.dist.now c.args.s 0) z in
     record {
       sizes = c.requires.sizes;

@@ -8,7 +8,7 @@ use Rattle.runs.proofs.making.push_doings.Goals as goal
 pub loop-doing-preserved : goal.loop-doing-preserved
 loop-doing-preserved c =
     after_more (vec_items c.args.states.now) (vec_items c.loop-doing.states) (vec_items c.push.new.self) c.args.doings.now c.loop-doing.doing-index _ _ (omega arith)
-    c.loop-doing.invariant c.in-ok-push.ensures.items refl
+    c.loop-doing.invariant c.in_ok-push.ensures.items refl
 
 pub returns : goal.returns
 returns c =

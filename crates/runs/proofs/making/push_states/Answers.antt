@@ -4,5 +4,5 @@ use Rattle.runs.proofs.making.push_states.Goals as goal
 
 pub returns : goal.returns
 returns c =
-    states_put (vec_items c.args.states.now) (vec_items c.push.new.self) (vec_items c.push-doings.new.states) _ c.deref.result.now (vec_items c.args.recorded.now.doings)
-    c.in-ok-push.ensures.items c.in-ok-push-doings.ensures c.deref.ensures.value
+    states_put (vec_items c.args.states.now) (vec_items c.push.new.self) (vec_items c.push_doings.new.states) _ c.deref.result.now (vec_items c.args.recorded.now.doings)
+    c.in_ok-push.ensures.items c.in_ok-push_doings.ensures c.deref.ensures.value

@@ -13,8 +13,8 @@ added c =
     c.len-all.ensures ∙ ap (λ (x : code.Record). vec_len x.doings) c.index.ensures ∙ sym (did_is (vec_items rs) c.loop-i.i c.index.result.now (omega (arith, rs.ok.0, c.len-i-end.ensures))) in
     (is, omega (arith, is, c.args.self.now.short c.loop-i.i))
 
-pub overflow-add-all : goal.overflow-add-all
-overflow-add-all c = record { fits = omega (arith, (added c).1, c.loop-i.invariant.1, c.args.self.now.few, length-map (vec_items c.args.self.now.records) record_of, c.args.self.now.records.ok.0, c.len-i-end.ensures) }
+pub overflow_add-all : goal.overflow_add-all
+overflow_add-all c = record { fits = omega (arith, (added c).1, c.loop-i.invariant.1, c.args.self.now.few, length-map (vec_items c.args.self.now.records) record_of, c.args.self.now.records.ok.0, c.len-i-end.ensures) }
 
 pub loop-i-preserved : goal.loop-i-preserved
 loop-i-preserved c =
