@@ -8,7 +8,7 @@ import re
 from pathlib import Path
 
 ROOT = Path(__file__).resolve().parent.parent
-WORDS = ["in_ok", "in_err", "in_default", "type_inv", "overflow_add", "overflow_sub", "overflow_mul", "overflow_cast", "overflow_neg"]
+WORDS = ["in_ok", "in_err", "in_default", "type_inv", "overflow_add", "overflow_sub", "overflow_mul", "overflow_cast", "overflow_neg", "invariant_of"]
 NAME = re.compile(r"\b[a-z][a-z0-9]*(?:_[a-z0-9]+)+\b")
 TOKEN = re.compile(r"(?<![\w'])([A-Za-z][\w']*(?:-[\w']+)+)")
 

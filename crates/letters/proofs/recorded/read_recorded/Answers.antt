@@ -16,7 +16,7 @@ match_letters-requires c =
     let read = at_arm (files_of c.args.files.now) _ _ c.in-Whole.is (c.in_ok-read.ensures (files_of c.args.files.now) refl) in
     record { few = subst P (sym c.deref.ensures.value) (read.few, read.short) }
 
-pub invariant-of-result : goal.invariant-of-result
-invariant-of-result c =
+pub invariant_of-result : goal.invariant_of-result
+invariant_of-result c =
     let read = at_arm (files_of c.args.files.now) _ _ c.in-Whole.is (c.in_ok-read.ensures (files_of c.args.files.now) refl) in
-    (read.few, (read.short, tt))
+    record { few = read.few; short = read.short }

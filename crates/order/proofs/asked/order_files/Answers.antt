@@ -13,13 +13,13 @@ make_run-requires c =
 
 pub returns-in-All : goal.returns-in-All
 returns-in-All c = λ whole same.
-    in_order whole c.in-Run.matched c.in_ok-run.run' c.in_ok-ordering.ordering c.in-All.ordered (at_arm whole _ _ c.in-Run.is (c.in_ok-recorded.ensures whole same)) c.in_ok-run.ensures
-    c.in-All.is c.in_ok-ordering.ensures
+    in_order whole c.in-Run.matched c.in_ok-run-in-Run.run' c.in_ok-ordering-in-Run.ordering c.in-All.ordered (at_arm whole _ _ c.in-Run.is (c.in_ok-recorded.ensures whole same)) c.in_ok-run-in-Run.ensures
+    c.in-All.is c.in_ok-ordering-in-Run.ensures
 
 pub unwrap-requires : goal.unwrap-requires
-unwrap-requires c = some_ring c.in_ok-run.run' c.in-Stuck.run' c.in-Stuck.cut c.in_ok-ordering.ordering c.in_ok-ring.ring c.in-Stuck.is c.in_ok-ordering.ensures c.in_ok-ring.ensures
+unwrap-requires c = some_ring c.in_ok-run-in-Run.run' c.in-Stuck.run' c.in-Stuck.cut c.in_ok-ordering-in-Run.ordering c.in_ok-ring-in-Stuck.ring c.in-Stuck.is c.in_ok-ordering-in-Run.ensures c.in_ok-ring-in-Stuck.ensures
 
-pub returns-in_ok-ring : goal.returns-in_ok-ring
-returns-in_ok-ring c = λ whole same.
-    has_ring whole c.in-Run.matched c.in_ok-run.run' c.in-Stuck.run' c.in-Stuck.cut c.in_ok-ordering.ordering c.in_ok-ring.ring c.unwrap.result (at_arm whole _ _ c.in-Run.is (c.in_ok-recorded.ensures whole same))
-    c.in_ok-run.ensures c.in-Stuck.is c.in_ok-ordering.ensures c.in_ok-ring.ensures c.unwrap.ensures
+pub returns-in_ok-ring-in-Stuck : goal.returns-in_ok-ring-in-Stuck
+returns-in_ok-ring-in-Stuck c = λ whole same.
+    has_ring whole c.in-Run.matched c.in_ok-run-in-Run.run' c.in-Stuck.run' c.in-Stuck.cut c.in_ok-ordering-in-Run.ordering c.in_ok-ring-in-Stuck.ring c.unwrap.result (at_arm whole _ _ c.in-Run.is (c.in_ok-recorded.ensures whole same))
+    c.in_ok-run-in-Run.ensures c.in-Stuck.is c.in_ok-ordering-in-Run.ensures c.in_ok-ring-in-Stuck.ensures c.unwrap.ensures

@@ -15,7 +15,7 @@ use Rattle.order.proofs.ordering.order_run.Goals as goal
 pub fill-requires : goal.fill-requires
 fill-requires c =
     let run = c.args.run in
-    let items : c.deref_mut.result.now ≡ replicate c.len.result c.none.result = c.deref_mut.ensures.value ∙ c.in_ok-rows.ensures.items-if-clones-equal (λ y h. h) in
+    let items : c.deref_mut.result.now ≡ replicate c.len.result c.none.result = c.deref_mut.ensures.value ∙ c.in_ok-rows.ensures.items_if_clones_equal (λ y h. h) in
     record {
       empty = c.new-turns.ensures.items;
       long = ap length items ∙ length-replicate c.len.result c.none.result ∙ c.len.ensures;

@@ -44,4 +44,4 @@ returns c =
     let ring = the_ring c.args.run.now (vec_items n.places) n.begins (vec_items x.was) (vec_items x.by) c.in_ok-numbers.ensures c.in_ok-links.ensures f
     (searched_as c.deref.result.now (vec_items x.was) c.deref-2.result.now (vec_items x.by) c.in_ok-found.found _ c.deref.ensures.value c.deref-2.ensures.value c.in-Some.is c.in_ok-found.ensures) in
     let P : List Place → Type 0 = λ z. LowestRing (run_of c.args.run.now) z in
-    subst P (sym (c.in_ok-ring.ensures ∙ ap (λ (z : List Place). map (place_of z) (f.start ∷ c.deref-in-Some-2.result.now)) c.deref-in-Some.ensures.value ∙ ap (λ (z : List ℕ). map (place_of (vec_items n.places)) (f.start ∷ z)) c.deref-in-Some-2.ensures.value)) ring
+    subst P (sym (c.in_ok-ring-in-Some.ensures ∙ ap (λ (z : List Place). map (place_of z) (f.start ∷ c.deref-in-Some-2.result.now)) c.deref-in-Some.ensures.value ∙ ap (λ (z : List ℕ). map (place_of (vec_items n.places)) (f.start ∷ z)) c.deref-in-Some-2.ensures.value)) ring

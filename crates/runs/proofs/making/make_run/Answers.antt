@@ -21,13 +21,14 @@ link-requires c =
           (indices_within (records_of (vec_items m.records)) (vec_items m.letters) x.did x.starts (vec_items x.states) (m.few, m.short) (laid_as _ (vec_items m.records) x.did x.starts (vec_items x.states) c.deref.ensures.value c.in_ok-layout.ensures) c.requires.of);
     }
 
-pub invariant-of-result : goal.invariant-of-result
-invariant-of-result c =
+pub invariant_of-result : goal.invariant_of-result
+invariant_of-result c =
     let m = c.args.matched.now in
     let x = c.in_ok-layout.layout in
     let states = linked_as (vec_items m.letters) c.deref-2.result.now (vec_items x.states) c.deref_mut.result.now c.link.new.states x.states x.starts c.deref-2.ensures.value c.deref_mut.ensures.value c.link.ensures (omega (arith, c.link.auto.states, c.deref_mut.ensures.len)) in
-    shapes (records_of (vec_items m.records)) (vec_items m.letters) x.did x.starts (vec_items x.states) (m.few, m.short) (laid_as _ (vec_items m.records) x.did x.starts (vec_items x.states) c.deref.ensures.value c.in_ok-layout.ensures) c.requires.of
-    c.len.result x.states.len _ (c.len.ensures ∙ m.records.ok.0 ∙ sym (length-map (vec_items m.records) record_of)) states (with_items x.states c.link.new.states).ok.0 c.requires.some
+    let s = shapes (records_of (vec_items m.records)) (vec_items m.letters) x.did x.starts (vec_items x.states) (m.few, m.short) (laid_as _ (vec_items m.records) x.did x.starts (vec_items x.states) c.deref.ensures.value c.in_ok-layout.ensures) c.requires.of
+    c.len.result x.states.len _ (c.len.ensures ∙ m.records.ok.0 ∙ sym (length-map (vec_items m.records) record_of)) states (with_items x.states c.link.new.states).ok.0 c.requires.some in
+    record { some = s.0; most = s.1.0; few = s.1.1.0; inside = s.1.1.1.0; apart = s.1.1.1.1.0; sent = s.1.1.1.1.1.0 }
 
 pub returns : goal.returns
 returns c =
