@@ -7,6 +7,7 @@ use exhaustive::findings::{Findings, Looked, Replied};
 use exhaustive::looking::look_at_files;
 use exhaustive::seen::Extreme;
 use runs::counts::Counts;
+use std::process::ExitCode;
 
 const USAGE: &str = "usage: all RECORD..
   RECORD..  the machines' records, in order of machines from 0";
@@ -98,10 +99,9 @@ fn run(rt: &HostRuntime) -> anyhow::Result<End> {
     all(rt, &words)
 }
 
-fn main(rt: HostRuntime) -> Result<(), End> {
-    match run(&rt) {
-        Ok(End::Told) => Ok(()),
-        Ok(end) => Err(end),
-        Err(_) => Err(End::Failed),
+fn main(rt: HostRuntime) -> anyhow::Result<ExitCode> {
+    match run(&rt)? {
+        End::Told => Ok(ExitCode::SUCCESS),
+        _ => Ok(ExitCode::FAILURE),
     }
 }

@@ -8,6 +8,7 @@ use cli::refusals::tell_refusal;
 use cli::{beginnings, words, write_whole};
 use letters::matched::Matched;
 use order::asked::{Asked, order_files};
+use std::process::ExitCode;
 
 const USAGE: &str = "usage: ask QUESTION ANSWER RECORD..
   QUESTION  may, must, least or most
@@ -129,10 +130,9 @@ fn run(rt: &HostRuntime) -> anyhow::Result<End> {
     ask(rt, words[0].as_str(), words[1].as_str(), &words[2..])
 }
 
-fn main(rt: HostRuntime) -> Result<(), End> {
-    match run(&rt) {
-        Ok(End::Told) => Ok(()),
-        Ok(end) => Err(end),
-        Err(_) => Err(End::Failed),
+fn main(rt: HostRuntime) -> anyhow::Result<ExitCode> {
+    match run(&rt)? {
+        End::Told => Ok(ExitCode::SUCCESS),
+        _ => Ok(ExitCode::FAILURE),
     }
 }

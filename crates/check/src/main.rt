@@ -6,6 +6,7 @@ use checker::judging::judge;
 use checker::verdict::Verdict;
 use cli::refusals::tell_why;
 use cli::{beginnings, read_all, words};
+use std::process::ExitCode;
 
 const USAGE: &str = "usage: check [QUESTION] ANSWER RECORD..
   QUESTION  may, must, least or most; whatever the answer is to, where none is named
@@ -123,10 +124,9 @@ fn run(rt: &HostRuntime) -> anyhow::Result<End> {
     check(rt, words[0].as_str(), words[1].as_str(), &words[2..])
 }
 
-fn main(rt: HostRuntime) -> Result<(), End> {
-    match run(&rt) {
-        Ok(End::Shown) | Ok(End::Helped) => Ok(()),
-        Ok(end) => Err(end),
-        Err(_) => Err(End::Failed),
+fn main(rt: HostRuntime) -> anyhow::Result<ExitCode> {
+    match run(&rt)? {
+        End::Shown | End::Helped => Ok(ExitCode::SUCCESS),
+        _ => Ok(ExitCode::FAILURE),
     }
 }

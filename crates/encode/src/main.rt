@@ -7,6 +7,7 @@ use records::record::Record;
 use records::writing::{Writing, write_record};
 use std::alloc::Global;
 use std::fs;
+use std::process::ExitCode;
 
 const USAGE: &str = "usage: encode MACHINE TEXT RECORD
   MACHINE  the machine's number, 0 to 39
@@ -163,10 +164,9 @@ fn run(rt: &HostRuntime) -> anyhow::Result<End> {
     Ok(End::Failed)
 }
 
-fn main(rt: HostRuntime) -> Result<(), End> {
-    match run(&rt) {
-        Ok(End::Written) => Ok(()),
-        Ok(end) => Err(end),
-        Err(_) => Err(End::Failed),
+fn main(rt: HostRuntime) -> anyhow::Result<ExitCode> {
+    match run(&rt)? {
+        End::Written => Ok(ExitCode::SUCCESS),
+        _ => Ok(ExitCode::FAILURE),
     }
 }

@@ -21,8 +21,8 @@ decide_may-requires c = record { order = (ordered (goal.at.decide_may-requires c
 pub returns : goal.returns
 returns c =
     let files = ordered (goal.at.returns c).In-Run in
-    let a = counted_of c.in_ok-counted.counted in
+    let a = counted_of c.in_ok-counted-in-Run.counted in
     record {
-      right = λ whole alike. of_question whole c.args.question _ (may_right whole c.in-Run.matched c.in-Run.ordered a (files whole alike) c.in_ok-counted.ensures);
-      steps = λ whole alike. may_steps whole c.in-Run.matched c.in-Run.ordered a (files whole alike) c.in_ok-counted.ensures;
+      right = λ whole alike. of_question whole c.args.question _ (may_right whole c.in-Run.matched c.in-Run.ordered a (files whole alike) c.in_ok-counted-in-Run.ensures);
+      steps = λ whole alike. may_steps whole c.in-Run.matched c.in-Run.ordered a (files whole alike) c.in_ok-counted-in-Run.ensures;
     }

@@ -19,12 +19,12 @@ look-requires c = record { order = (ordered (goal.at.look-requires c).In-Run (fi
 
 pub returns : goal.returns
 returns c = record {
-  judged = λ whole alike. of_question whole c.args.question c.args.bytes.now c.in_ok-verdict.verdict (may_judged whole c.in-Run.matched c.in-Run.ordered c.args.bytes.now c.in_ok-verdict.verdict (ordered (goal.at.returns c).In-Run whole alike) c.in_ok-verdict.ensures);
+  judged = λ whole alike. of_question whole c.args.question c.args.bytes.now c.in_ok-verdict-in-Run.verdict (may_judged whole c.in-Run.matched c.in-Run.ordered c.args.bytes.now c.in_ok-verdict-in-Run.verdict (ordered (goal.at.returns c).In-Run whole alike) c.in_ok-verdict-in-Run.ensures);
   one = one_verdict;
 }
 
 pub returns-in_err-asked : goal.returns-in_err-asked
 returns-in_err-asked c = record { judged = search rules; one = one_verdict }
 
-pub returns-in_err-verdict : goal.returns-in_err-verdict
-returns-in_err-verdict c = record { judged = search rules; one = one_verdict }
+pub returns-in_err-verdict-in-Run : goal.returns-in_err-verdict-in-Run
+returns-in_err-verdict-in-Run c = record { judged = search rules; one = one_verdict }

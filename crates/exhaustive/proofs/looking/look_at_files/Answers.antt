@@ -9,8 +9,8 @@ returns-in_err-asked c = record { replied = search rules; always = always }
 pub returns-in-Refused : goal.returns-in-Refused
 returns-in-Refused c = record { replied = λ whole alike. at_arm whole _ _ c.in-Refused.is (c.in_ok-asked.ensures whole alike); always = always }
 
-pub returns-in_err-looked : goal.returns-in_err-looked
-returns-in_err-looked c = record { replied = search rules; always = always }
+pub returns-in_err-looked-in-Run : goal.returns-in_err-looked-in-Run
+returns-in_err-looked-in-Run c = record { replied = search rules; always = always }
 
 pub returns : goal.returns
-returns c = record { replied = λ whole alike. looked_at whole c.in-Run.matched c.in-Run.ordered c.in_ok-looked.looked (at_arm whole _ _ c.in-Run.is (c.in_ok-asked.ensures whole alike)) c.in_ok-looked.ensures; always = always }
+returns c = record { replied = λ whole alike. looked_at whole c.in-Run.matched c.in-Run.ordered c.in_ok-looked-in-Run.looked (at_arm whole _ _ c.in-Run.is (c.in_ok-asked.ensures whole alike)) c.in_ok-looked-in-Run.ensures; always = always }

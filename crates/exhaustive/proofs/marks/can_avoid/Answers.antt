@@ -15,7 +15,7 @@ loop-number-init c =
     let marks = c.in_ok-marks.marks in
     let none = c.none-cut.ensures in (
       λ d inside lt. absurd (omega arith),
-      marks.ok.0 ∙ ap length (c.in_ok-marks.ensures.items-if-clones-equal (λ y h. h)) ∙ length-replicate c.args.cuts false,
+      marks.ok.0 ∙ ap length (c.in_ok-marks.ensures.items_if_clones_equal (λ y h. h)) ∙ length-replicate c.args.cuts false,
       λ i lt. omega (arith, none i),
       λ _. rank_none r.did r.count (counts_of c.none-cut.result) (λ i lt. none i),
     )
