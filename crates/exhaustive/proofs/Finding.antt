@@ -3,11 +3,9 @@ use Rattle.std.proofs.Common.{ℕ, Bool, true, false, not, List, Some, None, vec
 use Rattle.std.proofs.lemmas.Bool.{both_ways}
 use Rattle.records.specs.Record.{records_of, sign_of, amount_of}
 use Rattle.letters.specs.declared.matched.Matched.{Matched}
-use Rattle.runs.specs.declared.run.Run as code
 use Rattle.runs.specs.declared.counts.Counts.{Counts}
 use Rattle.runs.specs.Run.{Run, Done}
 use Rattle.runs.specs.Model.{run_of, signs_of, amounts_of, counts_of}
-use Rattle.order.specs.declared.asked.Asked.TheVariants as asked
 use Rattle.order.specs.declared.ordered.Ordered.{Ordered}
 use Rattle.order.specs.Asked.{InOrderAs}
 use Rattle.moments.specs.Signs.{Says, Must, ComesTo, FirstOrNone}

@@ -107,7 +107,7 @@ mod tests {
             return Err("not refused".into());
         };
         let bytes = refusal.bytes(heap)?;
-        assert!(rt; bytes.as_slice() == [78, 3, 1, 0, 1]);
+        assert!(rt; bytes.as_slice() == [78, 3, 1, 0, 1].as_slice());
         Ok(())
     }
 }

@@ -1,5 +1,5 @@
 -- A file that is no record shows it at one doing only, and a record at none.
-use Rattle.std.proofs.Common.{◌≡◌, ℕ, ◌+◌, ◌-◌, ◌/◌, ◌%◌, ◌<◌, ◌≤◌, Bool, ◌⊎◌, List, [], ◌∷◌, ◌++◌, length, get_or, drop, sym, refl, ap, ◌∙◌, subst, inl, inr, append_assoc, append-nil, arith, length-append}
+use Rattle.std.proofs.Common.{◌≡◌, ℕ, ◌+◌, ◌/◌, ◌%◌, ◌<◌, ◌≤◌, Bool, ◌⊎◌, List, [], ◌∷◌, ◌++◌, length, get_or, drop, sym, refl, ap, ◌∙◌, subst, inl, inr, append_assoc, append-nil, arith, length-append}
 use Rattle.records.specs.declared.doing.Doing.{Doing}
 use Rattle.records.specs.Record.{Record, DoingFits, DoingsFit, RecordFits, head_bytes, doing_bytes, doings_bytes, record_bytes}
 use Rattle.records.specs.Refusal.{Begun, FileFault}

@@ -3,7 +3,7 @@ use Rattle.std.proofs.Common.{◌≡◌, ℕ, ◌+◌, ◌<◌, ◌≤◌, List,
 use Rattle.std.proofs.lemmas.List.{take_all, take_more}
 use Rattle.records.specs.declared.doing.Doing.{Doing}
 use Rattle.records.specs.declared.record.Record as code
-use Rattle.records.specs.Record.{Record, record_of, DoingFits, DoingsFit, RecordFits, head_bytes, doing_bytes, doings_bytes}
+use Rattle.records.specs.Record.{record_of, DoingFits, DoingsFit, RecordFits, head_bytes, doing_bytes, doings_bytes}
 use Rattle.records.specs.Writing.{FirstBeyond, Beyond, Form}
 use Rattle.records.proofs.Forms.{bytes_more, fit_more}
 use Rattle.records.proofs.Faults.{no_fault_of}

@@ -1,5 +1,5 @@
 -- One start after another.
-use Rattle.std.proofs.Common.{◌≡◌, ℕ, ◌+◌, ◌-◌, ◌<◌, ◌≤◌, Bool, ◌⊎◌, List, length, get_or, sym, subst, inl, inr, ⊎_elim, arith}
+use Rattle.std.proofs.Common.{◌≡◌, ℕ, ◌+◌, ◌-◌, ◌<◌, ◌≤◌, Bool, List, length, get_or, sym, subst, inl, inr, ⊎_elim, arith}
 use Rattle.rings.specs.declared.finding.Best as best
 use Rattle.rings.specs.RingSearch.{Walk, From, AtLeast, Exact, Best, Greedy, Found}
 use Rattle.rings.specs.Links.{In}

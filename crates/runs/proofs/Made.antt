@@ -1,5 +1,5 @@
 -- The run that records make.
-use Rattle.std.proofs.Common.{◌≡◌, ℕ, zero, suc, ◌+◌, ◌<◌, ◌≤◌, Bool, true, ◌&&◌, ◌⊎◌, List, [], ◌∷◌, ◌++◌, length, get_or, take, Some, None, vec_items, Option, Vec, sym, refl, ap, ◌∙◌, subst, ⊎_elim, add_assoc, arith, length-append}
+use Rattle.std.proofs.Common.{◌≡◌, ℕ, zero, suc, ◌+◌, ◌<◌, ◌≤◌, Bool, true, ◌&&◌, List, [], ◌∷◌, ◌++◌, length, get_or, take, Some, None, vec_items, Option, Vec, sym, refl, ap, ◌∙◌, subst, ⊎_elim, add_assoc, arith, length-append}
 use mathlib.Core.List.{Memᴰ}
 use Rattle.std.proofs.lemmas.List.{length-map, with_items_is, take_all, get_or_past, get_or_append_left, get_or-append-add}
 use Rattle.std.proofs.lemmas.Bool.{cases_lt, lt-ltb, le-leb}

@@ -1,6 +1,6 @@
 -- How a run is laid out from records, and its letters' sendings written in.
 -- Assumes nothing.
-use Rattle.std.specs.Prelude.{◌≡◌, ℕ, ◌+◌, ◌<◌, ◌≤◌, List, [], ◌∷◌, ◌++◌, map, length, get_or, take, Some, None, slice_index, slice_index_or, slice_set}
+use Rattle.std.specs.Prelude.{◌≡◌, ℕ, ◌<◌, ◌≤◌, List, [], ◌∷◌, ◌++◌, map, length, get_or, take, Some, None, slice_index, slice_index_or, slice_set}
 use Rattle.records.specs.declared.doing.Doing.{Doing}
 use Rattle.records.specs.Record.{Record, did_of}
 use Rattle.letters.specs.declared.letter.Letter.{Letter}
