@@ -19,7 +19,7 @@ pub fn words(rt: &HostRuntime) -> anyhow::Result<Vec<String>> {
 }
 
 // The first bytes of a file, at most so many: a larger file is never kept in memory whole.
-fn read_beginning(rt: &HostRuntime, name: &str, most: u64) -> io::Result<Vec<u8>> {
+pub fn read_beginning(rt: &HostRuntime, name: &str, most: u64) -> io::Result<Vec<u8>> {
     let file = File::open(rt, name)?;
     let mut bytes = Vec::new(rt.alloc());
     file.take(most).read_to_end(&mut bytes)?;

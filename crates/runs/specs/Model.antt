@@ -47,5 +47,5 @@ run_of r = record { count = r.count; did = counts_of r.did; letters = letters_in
 -- the records make this run, and its signs and amounts are theirs
 pub record RunOf (rs : List Record) (r : code.Run) : Type 0 where
   pub makes : Makes rs (run_of r)
-  pub signs : (i m : ℕ) → i < length rs → m ≤ did_of rs i → signs_of r i m ≡ sign_of rs i m
-  pub amounts : (i m : ℕ) → i < length rs → m ≤ did_of rs i → amounts_of r i m ≡ amount_of rs i m
+  pub signs : (i m : ℕ) → i < length rs → m ≤ did_of rs i → (state_of r i m).sign ≡ sign_of rs i m
+  pub amounts : (i m : ℕ) → i < length rs → m ≤ did_of rs i → (state_of r i m).amount ≡ amount_of rs i m
