@@ -30,6 +30,6 @@ pub fn run(words: &[OsString]) -> Result<Reply, Trouble> {
     }
     Ok(Reply {
         output: format!("{}{}\n", verdict.fixed_lines(), verdict.explanation()),
-        status: verdict.status(),
+        status: 1,
     })
 }

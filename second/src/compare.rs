@@ -194,13 +194,12 @@ mod tests {
         let answers = ["may yes", "may no", "must yes", "must no"];
         let refused = ["refused 1", "refused 2", "refused 3", "refused 4"];
         let frequent = [
-            (Program::Ask, 200, &["may yes", "may no", "undecided"][..]),
+            (Program::Ask, 200, &["undecided"][..]),
             (Program::Ask, 50, &refused),
             (Program::Check, 1000, &["shown", "refused 5", "refused 6"]),
             (Program::Check, 300, &["undecided"]),
             (Program::Check, 50, &refused),
             (Program::All, 200, &answers),
-            (Program::All, 200, &["as ask to may"]),
             (Program::All, 50, &refused),
             (Program::All, 5, &["too many cuts"]),
             (Program::Encode, 50, &["texts encoded", "texts not encoded"]),

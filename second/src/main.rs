@@ -13,8 +13,8 @@
 //! `compare` runs FOLDER/ask, FOLDER/check, FOLDER/all and FOLDER/encode on a fixed
 //! table of edge cases, whose outcomes are written out by hand, and on random cases,
 //! whose outcomes come from the implementation here. Wherever `ask` is run, `all` is
-//! run on the same records, and has to say the same to `may`; then `check` is run on
-//! them with what `ask` wrote, as it is and damaged. It stops at the first difference.
+//! run on the same records; then `check` is run on them with the answer to `may`, as
+//! it is and damaged. It stops at the first difference.
 //! `ask`, `check`, `all` and `encode` are that implementation as programs of their own.
 //! `large`, `tangle` and `circle` write the records of runs as large as can be:
 //! without a ring, with very many, and with one of all doings.

@@ -1,7 +1,5 @@
 //! What `ask` has to say about records.
 
-use crate::answer::Answer;
-use crate::may::May;
 use crate::network::Network;
 use crate::question::Question;
 use crate::refusal::Refusal;
@@ -9,7 +7,6 @@ use crate::refusal::Refusal;
 #[derive(Clone, Debug, PartialEq, Eq)]
 pub enum Verdict {
     Refused(Refusal),
-    Answered(Answer),
     /// The records are fine, and the question stays open.
     Undecided {
         question: Question,
@@ -23,9 +20,6 @@ impl Verdict {
     pub fn of<B: AsRef<[u8]>>(question: Question, files: &[B]) -> Self {
         match Network::read(files) {
             Err(refusal) => Self::Refused(refusal),
-            Ok(network) if question == Question::May => {
-                Self::Answered(May::of(&network.records).answer())
-            }
             Ok(network) => Self::Undecided {
                 question,
                 machines: network.records.len(),
@@ -35,18 +29,10 @@ impl Verdict {
         }
     }
 
-    pub fn status(&self) -> u8 {
-        match self {
-            Self::Answered(_) => 0,
-            Self::Refused(_) | Self::Undecided { .. } => 1,
-        }
-    }
-
     /// The first lines of standard output, which are fixed to the letter.
     pub fn fixed_lines(&self) -> String {
         match self {
             Self::Refused(refusal) => refusal.line(),
-            Self::Answered(answer) => answer.line.clone(),
             Self::Undecided {
                 question,
                 machines,
@@ -63,7 +49,6 @@ impl Verdict {
     pub fn answer(&self) -> Option<Vec<u8>> {
         match self {
             Self::Refused(refusal) => Some(refusal.bytes()),
-            Self::Answered(answer) => Some(answer.bytes.clone()),
             Self::Undecided { .. } => None,
         }
     }
@@ -72,7 +57,6 @@ impl Verdict {
     pub fn explanation(&self) -> &'static str {
         match self {
             Self::Refused(refusal) => refusal.reason(),
-            Self::Answered(_) => "the first moment of all yes, or that there is none",
             Self::Undecided { .. } => "the records are fine; the question is not decided yet",
         }
     }
@@ -101,10 +85,5 @@ mod tests {
             "least undecided\nmachines 3 doings 14 letters 5\n"
         );
         assert_eq!(undecided.answer(), None);
-        let may = |first| May { first, pairs: 0 };
-        let answered = |first| Verdict::Answered(may(first).answer());
-        let first = Some(vec![1, 0, 500]);
-        assert_eq!(answered(first).fixed_lines(), "may yes 1 0 500\n");
-        assert_eq!(answered(None).fixed_lines(), "may no\n");
     }
 }

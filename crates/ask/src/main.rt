@@ -1,13 +1,11 @@
 // `ask QUESTION ANSWER RECORD..`: what can be known from machines' records.
 #![tactic(auto)]
 
-use answers::question::Question;
-use answers::reply::Reply;
-use asking::asking::answer_question;
 use cli::refusals::tell_refusal;
 use cli::{beginnings, words, write_whole};
 use letters::matched::Matched;
 use order::asked::{Asked, order_files};
+use records::refusal::Refusal;
 use std::process::ExitCode;
 
 const USAGE: &str = "usage: ask QUESTION ANSWER RECORD..
@@ -24,44 +22,23 @@ enum End {
     Failed,
 }
 
-// A question by its word: one that is answered so far, one that is not, or none.
-#[derive(Clone, Copy)]
-enum Asking {
-    Answered(Question),
-    NotYet,
-    Unknown,
+fn is_question(word: &str) -> bool {
+    matches!(word, "may" | "must" | "least" | "most")
 }
 
-fn question_of(word: &str) -> Asking {
-    match word {
-        "may" => Asking::Answered(Question::May),
-        "must" | "least" | "most" => Asking::NotYet,
-        _ => Asking::Unknown,
-    }
-}
-
-// Writes a reply's bytes in the answer's file; false where they can't be, which is told.
-fn write_reply(rt: &HostRuntime, answer: &str, reply: &Reply) -> anyhow::Result<bool> {
-    let bytes = reply.bytes(rt.alloc())?;
+fn refuse(
+    rt: &HostRuntime,
+    answer: &str,
+    refusal: &Refusal,
+    names: &[String],
+) -> anyhow::Result<End> {
+    let bytes = refusal.bytes(rt.alloc())?;
     if let Err(error) = write_whole(rt, answer, &bytes) {
         eprintln!(rt; "ask: {answer} can't be written: {error}")?;
-        return Ok(false);
+        return Ok(End::Failed);
     }
-    Ok(true)
-}
-
-fn tell_reply(rt: &HostRuntime, reply: &Reply, names: &[String]) -> anyhow::Result<End> {
-    match reply {
-        Reply::Answered(counted) => {
-            let answer = &counted.answer;
-            print!(rt; "{answer}")?;
-            Ok(End::Told)
-        }
-        Reply::Refused(refusal) => {
-            tell_refusal(rt, refusal, names)?;
-            Ok(End::Refused)
-        }
-    }
+    tell_refusal(rt, refusal, names)?;
+    Ok(End::Refused)
 }
 
 fn tell_undecided(rt: &HostRuntime, question: &str, matched: &Matched) -> anyhow::Result<End> {
@@ -71,49 +48,19 @@ fn tell_undecided(rt: &HostRuntime, question: &str, matched: &Matched) -> anyhow
     println!(rt; "{question} undecided")?;
     println!(rt; "machines {machines} doings {doings} letters {letters}")?;
     println!(rt;
-        "The records are in form, each letter that was got was sent, and no doing comes before itself. This version does not decide this question yet; no answer was written."
+        "The records are in form, each letter that was got was sent, and no doing comes before itself. This version does not decide questions yet; no answer was written."
     )?;
     Ok(End::Undecided)
-}
-
-// Writes and tells a reply.
-fn reply_with(
-    rt: &HostRuntime,
-    answer: &str,
-    reply: &Reply,
-    names: &[String],
-) -> anyhow::Result<End> {
-    if !write_reply(rt, answer, reply)? {
-        return Ok(End::Failed);
-    }
-    tell_reply(rt, reply, names)
-}
-
-// A question that is not answered yet: the records may be refused all the same.
-fn not_yet(
-    rt: &HostRuntime,
-    question: &str,
-    answer: &str,
-    files: &[Vec<u8>],
-    names: &[String],
-) -> anyhow::Result<End> {
-    let asked = order_files(rt.alloc(), files)?;
-    match asked {
-        Asked::Refused(refusal) => reply_with(rt, answer, &Reply::Refused(refusal), names),
-        Asked::Run { matched, .. } => tell_undecided(rt, question, &matched),
-    }
 }
 
 fn ask(rt: &HostRuntime, question: &str, answer: &str, names: &[String]) -> anyhow::Result<End> {
     let Some(files) = beginnings(rt, "ask", names)? else {
         return Ok(End::Failed);
     };
-    match question_of(question) {
-        Asking::Answered(asked) => {
-            let reply = answer_question(rt.alloc(), &files, asked)?;
-            reply_with(rt, answer, &reply, names)
-        }
-        _ => not_yet(rt, question, answer, &files, names),
+    let asked = order_files(rt.alloc(), &files)?;
+    match asked {
+        Asked::Refused(refusal) => refuse(rt, answer, &refusal, names),
+        Asked::Run { matched, .. } => tell_undecided(rt, question, &matched),
     }
 }
 
@@ -123,7 +70,7 @@ fn run(rt: &HostRuntime) -> anyhow::Result<End> {
         println!(rt; "{USAGE}")?;
         return Ok(End::Told);
     }
-    if words.len() < 2 || matches!(question_of(words[0].as_str()), Asking::Unknown) {
+    if words.len() < 2 || !is_question(words[0].as_str()) {
         eprintln!(rt; "{USAGE}")?;
         return Ok(End::Failed);
     }

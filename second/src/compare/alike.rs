@@ -27,16 +27,6 @@ fn expected(ask: &Case, records: &[String], said: &[u8]) -> Expected {
         Expected::Verdict(Verdict::Refused(refusal)) => {
             Expected::AsAsk(refusal.clone(), said.to_vec())
         }
-        Expected::Verdict(Verdict::Answered(_)) => match Survey::of(&files) {
-            Survey::Done(answers) => Expected::Alike(answers, first_line(said)),
-            survey => Expected::Survey(survey),
-        },
         _ => Expected::Survey(Survey::of(&files)),
     }
-}
-
-/// With its end.
-fn first_line(said: &[u8]) -> Vec<u8> {
-    let mut lines = said.split_inclusive(|&byte| byte == b'\n');
-    lines.next().unwrap_or_default().to_vec()
 }

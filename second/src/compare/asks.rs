@@ -40,15 +40,7 @@ fn case_of(
         ways.push(damage::random_damage(&mut records, chance));
     }
     let what = with_damage(thing, &ways);
-    let question = random_question(chance);
+    let question = *chance.pick(&Question::ALL);
     let verdict = Verdict::of(question, &records);
     Case::ask(&what, question.word(), records, verdict)
-}
-
-/// Mostly `may`, which alone is decided.
-fn random_question(chance: &mut Chance) -> Question {
-    match chance.below(3) {
-        0 => *chance.pick(&Question::ALL),
-        _ => Question::May,
-    }
 }

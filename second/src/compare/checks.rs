@@ -8,6 +8,7 @@ use super::expected::Expected;
 use super::with_damage;
 use crate::chance::Chance;
 use crate::judgement::Judgement;
+use crate::may::May;
 use crate::network::Network;
 use crate::question::Question;
 use crate::verdict::Verdict;
@@ -15,20 +16,22 @@ use crate::verdict::Verdict;
 /// How many times an answer is damaged.
 const DAMAGED: usize = 5;
 
-/// The cases of `check` after one of `ask`, which left these files: what it answered,
-/// as it is and damaged, or any bytes where it did not answer.
+/// The cases of `check` after one of `ask`, which left these files: the answer to `may`,
+/// as it is and damaged, or any bytes where the records are refused.
 pub fn cases(ask: &Case, left: &Files, chance: &mut Chance) -> Vec<Case> {
     let Expected::Verdict(verdict) = &ask.expected else {
         return Vec::new();
     };
     match verdict {
-        Verdict::Answered(_) => {
-            let answer = &left[ANSWER];
-            let mut cases = shown(ask, answer).to_vec();
-            cases.extend(damaged(ask, answer, chance));
+        Verdict::Undecided { .. } => {
+            let network = Network::read(&record_files(ask)).expect("records are fine");
+            let answer = May::of(&network.records).answer().bytes;
+            let mut cases = shown(ask, &answer).to_vec();
+            cases.extend(damaged(ask, &answer, &network, chance));
+            cases.push(arbitrary(ask, &answer, chance));
             cases
         }
-        Verdict::Refused(_) | Verdict::Undecided { .. } => {
+        Verdict::Refused(_) => {
             let left = left.get(ANSWER).map(Vec::as_slice);
             vec![arbitrary(ask, left.unwrap_or_default(), chance)]
         }
@@ -43,8 +46,7 @@ fn shown(ask: &Case, answer: &[u8]) -> [Case; 2] {
     })
 }
 
-fn damaged(ask: &Case, answer: &[u8], chance: &mut Chance) -> Vec<Case> {
-    let network = Network::read(&record_files(ask)).expect("records were answered");
+fn damaged(ask: &Case, answer: &[u8], network: &Network, chance: &mut Chance) -> Vec<Case> {
     (0..DAMAGED)
         .map(|_| {
             let mut answer = answer.to_vec();

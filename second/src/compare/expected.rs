@@ -3,7 +3,6 @@
 use super::case::Program;
 use crate::answers::Answers;
 use crate::judgement::Judgement;
-use crate::may;
 use crate::refusal::Refusal;
 use crate::survey::Survey;
 use crate::verdict::Verdict;
@@ -15,8 +14,6 @@ pub enum Expected {
     Verdict(Verdict),
     /// `all` says this of the records.
     Survey(Survey),
-    /// `all` gives these answers, and to `may` that which `ask` gave in this line.
-    Alike(Answers, Vec<u8>),
     /// `all` prints what `ask` printed when it refused the same records.
     AsAsk(Refusal, Vec<u8>),
     /// `check` says this of an answer and records.
@@ -32,11 +29,10 @@ pub enum Expected {
 impl Expected {
     pub fn status(&self) -> i32 {
         match self {
-            Self::Record(_) | Self::Alike(..) | Self::Help => 0,
-            Self::Verdict(verdict) => verdict.status().into(),
+            Self::Record(_) | Self::Help => 0,
             Self::Survey(survey) => survey.status().into(),
             Self::Judgement(judgement) => judgement.status().into(),
-            Self::AsAsk(..) | Self::Trouble => 1,
+            Self::Verdict(_) | Self::AsAsk(..) | Self::Trouble => 1,
         }
     }
 
@@ -61,9 +57,6 @@ impl Expected {
             Self::Verdict(verdict) => output.starts_with(verdict.fixed_lines().as_bytes()),
             Self::Survey(Survey::Done(answers)) => output == answers.lines().as_bytes(),
             Self::Survey(survey) => output.starts_with(survey.fixed_lines().as_bytes()),
-            Self::Alike(answers, said) => {
-                output == answers.lines().as_bytes() && may_line(output) == Some(said)
-            }
             Self::AsAsk(_, said) => output == said,
             Self::Judgement(judgement) => output.starts_with(judgement.line().as_bytes()),
             Self::Record(_) => true,
@@ -78,9 +71,6 @@ impl Expected {
             (Self::Verdict(verdict), _) => format!("{:?} and more", verdict.fixed_lines()),
             (Self::Survey(Survey::Done(answers)), _) => format!("{:?}", answers.lines()),
             (Self::Survey(survey), _) => format!("{:?} and more", survey.fixed_lines()),
-            (Self::Alike(answers, said), _) => {
-                format!("{:?} with {:?} of ask", answers.lines(), lossy(said))
-            }
             (Self::AsAsk(_, said), _) => format!("as of ask, {:?}", lossy(said)),
             (Self::Judgement(judgement), _) => format!("{:?} and more", judgement.line()),
             (Self::Help, _) => format!("{:?} and more", program.usage()),
@@ -93,9 +83,6 @@ impl Expected {
     pub fn sorts(&self, program: Program) -> Vec<String> {
         let name = match self {
             Self::Survey(Survey::Done(answers)) => return answers_sorts(answers),
-            Self::Alike(answers, _) => {
-                return [answers_sorts(answers), vec!["as ask to may".to_string()]].concat();
-            }
             Self::Verdict(Verdict::Refused(refusal))
             | Self::Survey(Survey::Refused(refusal))
             | Self::AsAsk(refusal, _) => return vec![format!("refused {}", refusal.number())],
@@ -103,8 +90,6 @@ impl Expected {
                 return vec![format!("refused {number}")];
             }
             Self::Judgement(Judgement::Shown) => "shown",
-            Self::Verdict(Verdict::Answered(answer)) if answer.line == may::line(None) => "may no",
-            Self::Verdict(Verdict::Answered(_)) => "may yes",
             Self::Verdict(Verdict::Undecided { .. }) | Self::Judgement(Judgement::Undecided) => {
                 "undecided"
             }
@@ -116,11 +101,6 @@ impl Expected {
         };
         vec![name.to_string()]
     }
-}
-
-/// The line of `all` that answers `may`, with its end.
-fn may_line(output: &[u8]) -> Option<&[u8]> {
-    output.split_inclusive(|&byte| byte == b'\n').nth(1)
 }
 
 fn lossy(said: &[u8]) -> Cow<'_, str> {

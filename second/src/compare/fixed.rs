@@ -17,7 +17,6 @@ const EARLIER: &[u8] = &[0xee; 64];
 /// may write, and with one.
 pub fn cases() -> Vec<Case> {
     let mut cases = asks::cases();
-    cases.extend(mays::cases());
     cases.extend(rings::cases());
     cases.extend(encodes::cases());
     let with_earlier: Vec<Case> = cases
@@ -25,6 +24,7 @@ pub fn cases() -> Vec<Case> {
         .map(|case| case.clone().with_earlier(EARLIER))
         .collect();
     cases.extend(with_earlier);
+    cases.extend(mays::cases());
     cases.extend(checks::cases());
     cases.extend(alls::cases());
     cases.extend(limits::cases());

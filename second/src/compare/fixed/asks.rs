@@ -1,6 +1,5 @@
 //! Edge cases for `ask`.
 
-use crate::answer::Answer;
 use crate::compare::case::{Case, Program};
 use crate::compare::expected::Expected;
 use crate::compare::fields::{
@@ -41,10 +40,9 @@ const fn refused(number: u8, machine: u8, doing: u16) -> Verdict {
     })
 }
 
-/// To a question that stays open.
 const fn fine(machines: usize, doings: usize, letters: usize) -> Verdict {
     Verdict::Undecided {
-        question: Question::Must,
+        question: Question::May,
         machines,
         doings,
         letters,
@@ -173,8 +171,6 @@ const USAGE: &[(&str, &[&str], Expected)] = &[
     ("a folder for a second record file", &["may", "answer", "fine", "."], Expected::Trouble),
     ("an answer in a folder that is not there", &["may", "nowhere/answer", "faulty"], Expected::Trouble),
     ("a folder for the answer", &["may", ".", "faulty"], Expected::Trouble),
-    ("fine records and an answer in a folder that is not there", &["may", "nowhere/answer", "fine"], Expected::Trouble),
-    ("fine records and a folder for the answer", &["may", ".", "fine"], Expected::Trouble),
     ("a refusal", &["most", "answer", "faulty"], Expected::Verdict(refused(1, 0, 0))),
     ("no record file", &["least", "answer"], Expected::Verdict(refused(1, 0, 0))),
 ];
@@ -184,7 +180,7 @@ pub fn cases() -> Vec<Case> {
     let mut cases: Vec<Case> = rows
         .into_iter()
         .map(|(what, machines, changes, verdict)| {
-            ask(what, changed(records(machines), changes), verdict)
+            may(what, changed(records(machines), changes), verdict)
         })
         .collect();
     cases.extend(cuts());
@@ -192,35 +188,13 @@ pub fn cases() -> Vec<Case> {
     cases.extend(many_doings());
     cases.extend(many_machines());
     cases.extend(full());
-    let decided: Vec<Case> = cases.iter().filter_map(decided_at_once).collect();
-    cases.extend(decided);
     cases.extend(questions());
     cases.extend(usage());
     cases
 }
 
-/// Asks the question that stays open, or else `may`.
-pub fn ask(what: &str, records: Vec<Vec<u8>>, verdict: Verdict) -> Case {
-    let question = match verdict {
-        Verdict::Undecided { question, .. } => question,
-        _ => Question::May,
-    };
-    Case::ask(what, question.word(), records, verdict)
-}
-
-/// The case of `may` that belongs to one of a question that stays open, if all signs
-/// are yes at first: nothing has to be behind.
-fn decided_at_once(open: &Case) -> Option<Case> {
-    let Expected::Verdict(Verdict::Undecided { machines, .. }) = open.expected else {
-        return None;
-    };
-    let records: Vec<Vec<u8>> = open.files.values().cloned().collect();
-    let answer = Answer {
-        line: format!("may yes{}\n", " 0".repeat(machines)),
-        bytes: [&[77, 1, 1][..], &vec![0; 2 * machines], &[0; 16]].concat(),
-    };
-    let yes = records.iter().all(|record| record[FIRST_SIGN] == 1);
-    yes.then(|| ask(&open.what, records, Verdict::Answered(answer)))
+pub fn may(what: &str, records: Vec<Vec<u8>>, verdict: Verdict) -> Case {
+    Case::ask(what, "may", records, verdict)
 }
 
 /// The records of machines that do this, with the same state throughout.
@@ -255,7 +229,7 @@ fn cuts() -> impl Iterator<Item = Case> {
             let mut files = records(PAIR);
             files[0].truncate(length);
             let what = format!("a record of two doings cut to {length} bytes");
-            ask(&what, files, refused(1, 0, doing))
+            may(&what, files, refused(1, 0, doing))
         })
     })
 }
@@ -273,7 +247,7 @@ fn tails() -> impl Iterator<Item = Case> {
         let mut files = records(&[vec![], vec![N; doings]]);
         files[1].extend(vec![0; tail]);
         let what = format!("{tail} bytes too many after {doings} doings");
-        ask(&what, files, verdict)
+        may(&what, files, verdict)
     })
 }
 
@@ -281,16 +255,16 @@ fn many_doings() -> Vec<Case> {
     let doings = |count, last: &[Act]| records(&[[&vec![N; count][..], last].concat()]);
     let faulty = |doing| changed(doings(500, &[]), &[(0, at(doing, KIND), &[3])]);
     vec![
-        ask("500 doings", doings(500, &[]), fine(1, 500, 0)),
-        ask("501 doings", doings(501, &[]), refused(1, 0, 0)),
-        ask("a fault in doing 256", faulty(256), refused(1, 0, 256)),
-        ask("a fault in doing 500", faulty(500), refused(1, 0, 500)),
-        ask(
+        may("500 doings", doings(500, &[]), fine(1, 500, 0)),
+        may("501 doings", doings(501, &[]), refused(1, 0, 0)),
+        may("a fault in doing 256", faulty(256), refused(1, 0, 256)),
+        may("a fault in doing 500", faulty(500), refused(1, 0, 500)),
+        may(
             "a 2 in doing 500",
             doings(498, &[S(7), S(7)]),
             refused(2, 0, 500),
         ),
-        ask("a 3 in doing 257", doings(256, &[G(7)]), refused(3, 0, 257)),
+        may("a 3 in doing 257", doings(256, &[G(7)]), refused(3, 0, 257)),
     ]
 }
 
@@ -302,14 +276,14 @@ fn many_machines() -> Vec<Case> {
     empty_last[40].clear();
     let sent_twice = records(&vec![[S(7)]; 41]);
     vec![
-        ask("no machines", vec![], refused(1, 0, 0)),
-        ask("40 machines", machines(40), fine(40, 40, 0)),
-        ask("41 machines", machines(41), refused(1, 40, 0)),
-        ask("43 machines", machines(43), refused(1, 40, 0)),
-        ask("41 machines, the last without bytes", empty_last, refused(1, 40, 0)),
-        ask("41 machines and a fault in the last", faulty(40), refused(1, 40, 0)),
-        ask("41 machines and a fault before", faulty(39), refused(1, 39, 1)),
-        ask("41 machines and a 2 before", sent_twice, refused(1, 40, 0)),
+        may("no machines", vec![], refused(1, 0, 0)),
+        may("40 machines", machines(40), fine(40, 40, 0)),
+        may("41 machines", machines(41), refused(1, 40, 0)),
+        may("43 machines", machines(43), refused(1, 40, 0)),
+        may("41 machines, the last without bytes", empty_last, refused(1, 40, 0)),
+        may("41 machines and a fault in the last", faulty(40), refused(1, 40, 0)),
+        may("41 machines and a fault before", faulty(39), refused(1, 39, 1)),
+        may("41 machines and a 2 before", sent_twice, refused(1, 40, 0)),
     ]
 }
 
@@ -321,21 +295,20 @@ fn full() -> [Case; 2] {
     acts[0][0] = S(7);
     let sent = records(&acts);
     [
-        ask("a letter from first to last", sent, fine(40, 20_000, 1)),
-        ask("a 3 in the last doing", unsent, refused(3, 39, 500)),
+        may("a letter from first to last", sent, fine(40, 20_000, 1)),
+        may("a 3 in the last doing", unsent, refused(3, 39, 500)),
     ]
 }
 
 fn questions() -> impl Iterator<Item = Case> {
-    let open = [Question::Must, Question::Least, Question::Most];
-    open.into_iter().map(|question| {
+    Question::ALL.into_iter().map(|question| {
         let verdict = Verdict::Undecided {
             question,
             machines: 2,
             doings: 4,
             letters: 1,
         };
-        ask("a question", records(TWO), verdict)
+        Case::ask("a question", question.word(), records(TWO), verdict)
     })
 }
 

@@ -1,10 +1,11 @@
 //! Edge cases of the answers to `may`.
 
 use super::alls;
-use crate::answer::Answer;
 use crate::compare::case::Case;
 use crate::form;
+use crate::judgement::Judgement;
 use crate::large::large;
+use crate::question::Question;
 use crate::record::{Act, Doing, MOST_DOINGS, MOST_MACHINES, Place, Record, State};
 use crate::refusal::Refusal;
 use crate::verdict::Verdict;
@@ -111,11 +112,8 @@ pub fn cases() -> Vec<Case> {
 }
 
 fn case(what: &str, records: Vec<Vec<u8>>, line: &str, bytes: &[u8]) -> Case {
-    let answer = Answer {
-        line: line.to_string(),
-        bytes: bytes.to_vec(),
-    };
-    Case::ask(what, "may", records, Verdict::Answered(answer))
+    let what = format!("{what}, {}", line.trim_end());
+    Case::check(&what, Some(Question::May), bytes, records, Judgement::Shown)
 }
 
 fn never_sent() -> Case {

@@ -1,6 +1,6 @@
 //! Edge cases of rings for `ask`.
 
-use super::asks::{ask, records};
+use super::asks::{may, records};
 use crate::compare::case::Case;
 use crate::record::Act::{self, Gets as G, Neither as N, Sends as S};
 use crate::record::{MOST_DOINGS, MOST_MACHINES, Place};
@@ -109,7 +109,7 @@ fn ring_case<A: AsRef<[Act]>>(
         .map(|(machine, doing)| Place { machine, doing })
         .collect();
     let verdict = Verdict::Refused(Refusal::Ring(places));
-    ask(what, records(machines), verdict)
+    may(what, records(machines), verdict)
 }
 
 /// Doings whose numbers have two bytes.
