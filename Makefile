@@ -11,19 +11,19 @@ SEED ?= 1
 CASES ?= 4000
 CARGO := cargo --quiet
 SECOND := target/second/release/second
+PROGRAMS := ask all check_answer encode
 
-.PHONY: build programs demo examples test compare second unchanged bench
+.PHONY: build collect demo examples test compare second unchanged bench
 
-# where `rt` leaves each program, and the name that it goes by: the kit has a library `check`, so that crate has a name of its own
 build:
 	@rt all check
-	@$(MAKE) --no-print-directory programs
+	@for program in $(PROGRAMS); do (cd crates/$$program; rt run -- --help > /dev/null); done
+	@$(MAKE) --no-print-directory collect
 
-programs:
+# each program under the name that it goes by: the kit has a library `check`, so that crate is `check_answer`
+collect:
 	@mkdir -p target/bin
-	@for program in ask all encode check_answer; do \
-	(cd crates/$$program; [ -x out/$$program ] || rt run -- --help > /dev/null 2>&1); \
-	cp crates/$$program/out/$$program target/bin/$${program%_answer}; done
+	@for program in $(PROGRAMS); do cp crates/$$program/out/$$program target/bin/$${program%_answer}; done
 
 demo: build
 	@echo; echo '$$ ask may target/demo.answer examples/valves/station*.rec'
@@ -52,11 +52,12 @@ compare: second
 bench: second
 	@bench/run
 
-# `rt ci` begins with an empty target/, so the rest comes after it; its last line comes last
+# `rt ci` leaves the programs that it proved in crates/*/out; its last line comes last
 test:
 	@log=$$(mktemp); trap 'rm -f "$$log"' EXIT; \
-	rt fmt --check; \
 	rt ci 2>&1 | tee "$$log"; \
+	if grep -q '^rt: ok.*, [0-9]* bad' "$$log"; then echo 'test: an edit that must be refused is no edit'; exit 1; fi; \
+	$(MAKE) --no-print-directory collect; \
 	$(CARGO) test --release --offline --locked --manifest-path second/Cargo.toml; \
 	$(MAKE) --no-print-directory compare unchanged; \
 	tail -n 1 "$$log" | grep -x '[0-9]* passed, 0 failed'
