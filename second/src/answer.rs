@@ -14,7 +14,7 @@ const MAY: u8 = Question::May.number();
 const NO: u8 = 0;
 const YES: u8 = 1;
 
-/// What `ask` says and what it writes.
+/// An answer in a line, and the bytes that say it.
 #[derive(Clone, Debug, PartialEq, Eq)]
 pub struct Answer {
     /// With its end.

@@ -124,14 +124,19 @@ fn fixed_cases(options: &Options) -> Vec<Case> {
 
 /// A text or the records of a run, and then the records of a small run.
 fn random_cases(chance: &mut Chance) -> [Case; 2] {
+    let case = random_case(chance);
+    let small = asks::random_small_case(chance);
+    [case, with_earlier(small, chance)]
+}
+
+/// A text or the records of a run.
+fn random_case(chance: &mut Chance) -> Case {
     let case = if chance.one_in(4) {
         texts::random_case(chance)
     } else {
         asks::random_case(chance)
     };
-    let case = with_earlier(case, chance);
-    let small = asks::random_small_case(chance);
-    [case, with_earlier(small, chance)]
+    with_earlier(case, chance)
 }
 
 /// A file may already be there where the program writes.
@@ -170,8 +175,8 @@ mod tests {
     use super::*;
 
     /// The cases of a random one, with those that belong to them.
-    fn with_nexts(number: u64) -> Vec<Case> {
-        let mut chance = Chance::new(1, number);
+    fn with_nexts(seed: u64, number: u64) -> Vec<Case> {
+        let mut chance = Chance::new(seed, number);
         let mut cases = Vec::new();
         for case in random_cases(&mut chance) {
             let left = Left {
@@ -185,10 +190,41 @@ mod tests {
         cases
     }
 
+    fn assert_frequent(tally: &Tally, frequent: &[(Program, usize, &[&str])]) {
+        for (program, least, sorts) in frequent {
+            for sort in *sorts {
+                assert!(tally.of(*program, sort) >= *least, "{}", tally.in_words());
+            }
+        }
+    }
+
     #[test]
     fn every_outcome_is_frequent_among_random_cases() {
         let mut tally = Tally::default();
-        for case in (1..=1000).flat_map(with_nexts) {
+        for number in 1..=1000 {
+            tally.add(&random_case(&mut Chance::new(1, number)));
+        }
+        let fine_or_refused = [
+            "undecided",
+            "refused 1",
+            "refused 2",
+            "refused 3",
+            "refused 4",
+        ];
+        let texts = ["texts encoded", "texts not encoded"];
+        assert_frequent(
+            &tally,
+            &[
+                (Program::Ask, 50, &fine_or_refused),
+                (Program::Encode, 50, &texts),
+            ],
+        );
+    }
+
+    #[test]
+    fn every_outcome_is_frequent_with_small_runs() {
+        let mut tally = Tally::default();
+        for case in (1..=1000).flat_map(|number| with_nexts(1, number)) {
             tally.add(&case);
         }
         let answers = ["may yes", "may no", "must yes", "must no"];
@@ -204,18 +240,14 @@ mod tests {
             (Program::All, 5, &["too many cuts"]),
             (Program::Encode, 50, &["texts encoded", "texts not encoded"]),
         ];
-        for (program, least, sorts) in frequent {
-            for sort in sorts {
-                assert!(tally.of(program, sort) >= least, "{}", tally.in_words());
-            }
-        }
+        assert_frequent(&tally, &frequent);
     }
 
     #[test]
-    fn cases_can_be_made_again() {
+    fn a_case_can_be_made_again() {
         for number in 1..=50 {
             let words_and_files = || {
-                let cases = with_nexts(number).into_iter();
+                let cases = with_nexts(3, number).into_iter();
                 cases
                     .map(|case| (case.words, case.files))
                     .collect::<Vec<_>>()

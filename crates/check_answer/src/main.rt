@@ -13,7 +13,7 @@ const USAGE: &str = "usage: check [QUESTION] ANSWER RECORD..
   ANSWER    the file with the answer
   RECORD..  the machines' records, in order of machines from 0";
 
-// How checking ended. All but `Shown` end with status 1.
+// How checking ended. All but `Shown` and `Helped` end with status 1.
 #[derive(Clone, Copy)]
 enum End {
     Shown,

@@ -126,7 +126,7 @@ module _ (rs : List Record) where
       tri : (m n : ℕ) → (m < n) ⊎ ((n < m) ⊎ (m ≡ n))
       tri m n = grind arith
 
-  -- one doing Sends it
+  -- one doing sends it
   one_sender : ((q : Place) → Again rs q → ⊥) → (p q : Place) (k : ℕ) → kind_of rs p.machine p.doing ≡ Sends k → kind_of rs q.machine q.doing ≡ Sends k → (p.machine ≡ q.machine) × (p.doing ≡ q.doing)
   one_sender once p q k e f = elim (which p q) [
     | inl before ↦ absurd (once q (record { first = p; earlier = before; letter = sends_some _ k f; same = e ∙ sym f }))

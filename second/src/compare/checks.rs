@@ -16,26 +16,21 @@ use crate::verdict::Verdict;
 /// How many times an answer is damaged.
 const DAMAGED: usize = 5;
 
-/// The cases of `check` after one of `ask`, which left these files: the answer to `may`,
-/// as it is and damaged, or any bytes where the records are refused.
+/// The cases of `check` after one of `ask`, which left these files: with any bytes, and
+/// where the records are fine with the answer to `may`, as it is and damaged.
 pub fn cases(ask: &Case, left: &Files, chance: &mut Chance) -> Vec<Case> {
     let Expected::Verdict(verdict) = &ask.expected else {
         return Vec::new();
     };
-    match verdict {
-        Verdict::Undecided { .. } => {
-            let network = Network::read(&record_files(ask)).expect("records are fine");
-            let answer = May::of(&network.records).answer().bytes;
-            let mut cases = shown(ask, &answer).to_vec();
-            cases.extend(damaged(ask, &answer, &network, chance));
-            cases.push(arbitrary(ask, &answer, chance));
-            cases
-        }
-        Verdict::Refused(_) => {
-            let left = left.get(ANSWER).map(Vec::as_slice);
-            vec![arbitrary(ask, left.unwrap_or_default(), chance)]
-        }
+    let left = left.get(ANSWER).map(Vec::as_slice).unwrap_or_default();
+    let mut cases = vec![arbitrary(ask, left, chance)];
+    if matches!(verdict, Verdict::Undecided { .. }) {
+        let network = Network::read(&record_files(ask)).expect("records are fine");
+        let answer = May::of(&network.records).answer().bytes;
+        cases.extend(shown(ask, &answer));
+        cases.extend(damaged(ask, &answer, &network, chance));
     }
+    cases
 }
 
 /// With and without the question named.

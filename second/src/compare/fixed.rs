@@ -17,14 +17,15 @@ const EARLIER: &[u8] = &[0xee; 64];
 /// may write, and with one.
 pub fn cases() -> Vec<Case> {
     let mut cases = asks::cases();
+    cases.extend(mays::cases());
     cases.extend(rings::cases());
     cases.extend(encodes::cases());
     let with_earlier: Vec<Case> = cases
         .iter()
+        .filter(|case| case.program.writes().is_some())
         .map(|case| case.clone().with_earlier(EARLIER))
         .collect();
     cases.extend(with_earlier);
-    cases.extend(mays::cases());
     cases.extend(checks::cases());
     cases.extend(alls::cases());
     cases.extend(limits::cases());
