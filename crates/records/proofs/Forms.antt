@@ -1,10 +1,10 @@
 -- Doings one after another, as bytes.
 use Rattle.std.proofs.Common.{◌≡◌, ℕ, ◌+◌, ◌-◌, ◌*◌, ◌<◌, ◌≤◌, List, [], ◌∷◌, ◌++◌, length, take, drop, sym, ap, ◌∙◌, subst, append_assoc, append-nil, arith, length-append, length-drop, drop-drop}
 use Rattle.std.proofs.lemmas.List.{take_rest}
+use Rattle.std.proofs.lemmas.Grind.{flat_map-append}
 use Rattle.records.specs.Record.{DoingFits, DoingsFit, doing_bytes, doings_bytes}
 use Rattle.records.specs.declared.doing.Doing.{Doing}
-use Rattle.records.specs.Reading.{Begin, IsDoing, NoDoing, DoingsRead}
-use Rattle.records.specs.declared.reading.Doings.TheVariants.{Fault}
+use Rattle.records.specs.Reading.{Begin, IsDoing, NoDoing, NoDoingAt}
 
 pub long : (ds : List Doing) → length (doings_bytes ds) ≡ 10 * length ds
 long [] = omega arith
@@ -15,8 +15,7 @@ fit_more [] d fs f = (f, tt)
 fit_more (x ∷ xs) d fs f = (fs.0, fit_more xs d fs.1 f)
 
 pub bytes_more : (ds : List Doing) (d : Doing) (bs : List ℕ) → doings_bytes (ds ++ (d ∷ [])) ++ bs ≡ doings_bytes ds ++ (doing_bytes d ++ bs)
-bytes_more [] d bs = ap (λ (x : List ℕ). x ++ bs) (append-nil (doing_bytes d))
-bytes_more (x ∷ xs) d bs = append_assoc (doing_bytes x) (doings_bytes (xs ++ (d ∷ []))) bs ∙ ap (λ (y : List ℕ). doing_bytes x ++ y) (bytes_more xs d bs) ∙ sym (append_assoc (doing_bytes x) (doings_bytes xs) (doing_bytes d ++ bs))
+bytes_more ds d bs = rw (flat_map-append doing_bytes ds (d ∷ [])) (append_assoc (doings_bytes ds) (doing_bytes d ++ []) bs ∙ ap (λ (x : List ℕ). doings_bytes ds ++ x) (ap (λ (x : List ℕ). x ++ bs) (append-nil (doing_bytes d))))
 
 pub begin_long : (bs : List ℕ) (ds : List Doing) → Begin bs ds → 10 * length ds ≤ length bs
 begin_long bs ds b = omega (arith, ap length b.1, length-append (doings_bytes ds) (drop (10 * length ds) bs), long ds, length-drop (10 * length ds) bs)
@@ -36,7 +35,7 @@ begin_more bs xs ys x m n e b is =
     subst Q (sym e) (begin_next bs xs x b (subst P (take_rest bs (10 * m) ∙ ap (λ (k : ℕ). drop (10 * k) bs) (sym n)) is))
 
 -- m doings and no more
-pub fault : (bs : List ℕ) (xs : List Doing) (m count : ℕ) → length xs ≡ m → m < count → Begin bs xs → NoDoing (take (length bs - 10 * m) (drop (10 * m) bs)) → DoingsRead bs count (Fault (m + 1))
+pub fault : (bs : List ℕ) (xs : List Doing) (m count : ℕ) → length xs ≡ m → m < count → Begin bs xs → NoDoing (take (length bs - 10 * m) (drop (10 * m) bs)) → NoDoingAt bs count (m + 1)
 fault bs xs m count n lt b none =
     let P : List ℕ → Type 0 = NoDoing in
     (xs, omega arith, omega arith, b, subst P (take_rest bs (10 * m) ∙ ap (λ (k : ℕ). drop (10 * k) bs) (sym n)) none)

@@ -1,14 +1,12 @@
 -- Files one after another: read so far, and the first that is no record.
 use Rattle.std.proofs.Common.{◌≡◌, ℕ, zero, suc, ◌+◌, ◌<◌, ◌≤◌, List, [], ◌∷◌, ◌++◌, length, get_or, take, vec_items, Vec, sym, refl, ap, ◌∙◌, subst, inl, inr, arith, length-take}
-use Rattle.std.proofs.lemmas.List.{get_or-take, take_more, get_or-map, take_all, map_push}
+use Rattle.std.proofs.lemmas.List.{get_or-take, take_more, get_or-map, take_all, map_push, length-map}
 use Rattle.std.specs.declared.alloc.Global.{Global}
 use Rattle.records.specs.declared.place.Place.{Place}
 use Rattle.records.specs.declared.record.Record as code
-use Rattle.records.specs.declared.reading.Reading.{Reading}
-use Rattle.records.specs.declared.reading.Reading.TheVariants.{Whole}
 use Rattle.records.specs.Record.{Record, record_of, records_of, RecordFits, record_bytes, did_of}
-use Rattle.records.specs.Refusal.{Earlier, FirstPlace, ReadFrom, FileFault, FormFault}
-use Rattle.records.specs.Reading.{RecordRead, files_of}
+use Rattle.records.specs.Refusal.{Earlier, FirstPlace, ReadFrom, Read, FileFault, FormFault}
+use Rattle.records.specs.Reading.{IsRecord, files_of}
 use Rattle.records.proofs.Faults.{one_fault, no_fault_of}
 
 read_one : (k n : ℕ) (bs : List ℕ) (r : Record) → n ≡ k → RecordFits r → bs ≡ record_bytes n r → ReadFrom k (bs ∷ []) (r ∷ [])
@@ -71,21 +69,22 @@ first_more fs lt good = (FormFault.too_many lt, λ q before h. no_more fs lt goo
 pub first_none : (fs : List (List ℕ)) → length fs ≡ 0 → FirstPlace (FormFault fs) (record { machine = 0; doing = 0 })
 first_none fs e = (FormFault.no_file e, λ q before h. elim before [ inl x ↦ omega arith | inr x ↦ omega (arith, x.1) ])
 
--- of the program's values: file i, as its part of the slice and the match's arm have it
-pub in_file : (fs : List (Vec ℕ Global)) (i : ℕ) (v : Vec ℕ Global) (bs : List ℕ) (x y : Reading) → i < length fs → v ≡ get_or fs i v → bs ≡ vec_items v → x ≡ y → RecordRead i bs x → RecordRead i (get_or (files_of fs) i []) y
-in_file fs i v bs x y lt e d same h =
-    let P : Reading → Type 0 = λ z. RecordRead i bs z in
-    let Q : List ℕ → Type 0 = λ z. RecordRead i z y in
-    subst Q (d ∙ ap vec_items e ∙ sym (get_or-map vec_items fs i v [] lt)) (subst P same h)
+-- of the program's values: file i, as the loop has it
+pub in_file : (P : List ℕ → Type 0) (fs : List (Vec ℕ Global)) (i : ℕ) (v : Vec ℕ Global) (bs : List ℕ) → i < length fs → v ≡ get_or fs i v → bs ≡ vec_items v → P bs → P (get_or (files_of fs) i [])
+in_file P fs i v bs lt e d h = subst P (d ∙ ap vec_items e ∙ sym (get_or-map vec_items fs i v [] lt)) h
 
-pub read_step : (fs : List (List ℕ)) (xs ys : List code.Record) (i : ℕ) (r : code.Record) → i < length fs → ReadFrom 0 (take i fs) (records_of xs) → ys ≡ xs ++ (r ∷ []) → RecordRead i (get_or fs i []) (Whole r) → ReadFrom 0 (take (i + 1) fs) (records_of ys)
+pub read_step : (fs : List (List ℕ)) (xs ys : List code.Record) (i : ℕ) (r : code.Record) → i < length fs → ReadFrom 0 (take i fs) (records_of xs) → ys ≡ xs ++ (r ∷ []) → IsRecord i (get_or fs i []) (record_of r) → ReadFrom 0 (take (i + 1) fs) (records_of ys)
 read_step fs xs ys i r lt h e is =
     let P : List (List ℕ) → Type 0 = λ z. ReadFrom 0 z (records_of ys) in
     let Q : List Record → Type 0 = λ z. ReadFrom 0 (take i fs ++ (get_or fs i [] ∷ [])) z in
     subst P (sym (take_more fs i [] lt)) (subst Q (sym (ap records_of e ∙ map_push record_of xs r)) (read_more i (get_or fs i []) (record_of r) h (omega (arith, length-take i fs)) is.0 is.1))
 
-pub read_all : (fs : List (List ℕ)) (n : ℕ) (rs : List Record) → length fs ≤ n → ReadFrom 0 (take n fs) rs → ReadFrom 0 fs rs
-read_all fs n rs le h = let P : List (List ℕ) → Type 0 = λ z. ReadFrom 0 z rs in subst P (take_all n fs le) h
+-- of the program's values: all of them
+pub read_all : (files : List (Vec ℕ Global)) (n : ℕ) (rs : List Record) → 1 ≤ length files → length files ≤ n → n ≤ 40 → ReadFrom 0 (take n (files_of files)) rs → Read (files_of files) rs
+read_all files n rs some le few h =
+    let P : List (List ℕ) → Type 0 = λ z. ReadFrom 0 z rs in
+    let long : length (files_of files) ≡ length files = length-map files vec_items in
+    (omega arith, omega arith, subst P (take_all n (files_of files) (omega arith)) h)
 
 pub read_none : (xs : List code.Record) → xs ≡ [] → ReadFrom 0 [] (records_of xs)
 read_none xs e = let P : List code.Record → Type 0 = λ z. ReadFrom 0 [] (records_of z) in subst P (sym e) ReadFrom.end

@@ -6,3 +6,4 @@ mod InOrder
 mod OneForm
 mod Beginnings
 mod Written
+pub mod HandedOn

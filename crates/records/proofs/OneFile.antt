@@ -5,19 +5,14 @@ use Rattle.records.specs.Record.{RecordFits, head_bytes, doings_bytes, record_by
 use Rattle.records.specs.Refusal.{Begun, FileFault}
 use Rattle.records.specs.declared.doing.Doing.{Doing}
 use Rattle.records.specs.declared.record.Head.{Head}
-use Rattle.records.specs.declared.reading.Doings.{Doings}
-use Rattle.records.specs.declared.reading.Doings.TheVariants.{Fault}
-use Rattle.records.specs.Reading.{Begin, IsHead, NoHead, DoingsRead}
+use Rattle.records.specs.Reading.{Begin, IsHead, NoHead, NoDoingAt}
 
 pub no_head : (i : ℕ) (bs : List ℕ) → NoHead i bs → FileFault i bs 0
 no_head i bs none = FileFault.head (λ count rest b. none b.sign b.amount count rest b.amount_fits b.few b.bytes)
 
--- the doings behind the head, as the match's arm has them
-pub behind : (bs : List ℕ) (n : ℕ) (x y : Doings) → x ≡ y → DoingsRead (take (length bs - 9) (drop 9 bs)) n x → DoingsRead (drop 9 bs) n y
-behind bs n x y e h =
-    let P : Doings → Type 0 = λ z. DoingsRead (drop 9 bs) n z in
-    let Q : List ℕ → Type 0 = λ zs. DoingsRead zs n x in
-    subst P e (subst Q (take_rest bs 9) h)
+-- the bytes behind the head, as the code has them
+pub behind : (P : List ℕ → Type 0) (bs : List ℕ) → P (take (length bs - 9) (drop 9 bs)) → P (drop 9 bs)
+behind P bs h = subst P (take_rest bs 9) h
 
 begun : (i : ℕ) (bs : List ℕ) (h : Head) (ds : List Doing) (rest : List ℕ) → IsHead i bs h → Begin (drop 9 bs) ds → length ds ≤ h.count → drop (10 * length ds) (drop 9 bs) ≡ rest → Begun i bs h.count ds rest
 begun i bs h ds rest is b le e =
@@ -31,7 +26,7 @@ begun i bs h ds rest is b le e =
       bytes = is.2 ∙ ap (λ (x : List ℕ). head_bytes i h.sign h.amount h.count ++ x) (b.1 ∙ ap (λ (x : List ℕ). doings_bytes ds ++ x) e);
     }
 
-pub doing_fault : (i : ℕ) (bs : List ℕ) (h : Head) (m : ℕ) → IsHead i bs h → DoingsRead (drop 9 bs) h.count (Fault m) → FileFault i bs m
+pub doing_fault : (i : ℕ) (bs : List ℕ) (h : Head) (m : ℕ) → IsHead i bs h → NoDoingAt (drop 9 bs) h.count m → FileFault i bs m
 doing_fault i bs h m is f =
     let P : ℕ → Type 0 = λ k. FileFault i bs k in
     subst P (sym f.2) (FileFault.doing (begun i bs h f.0 (drop (10 * length f.0) (drop 9 bs)) is f.3 (omega (arith, f.1)) refl) f.1 f.4)

@@ -1,4 +1,5 @@
 pub mod Record
+pub mod Failure
 pub mod Refusal
 pub mod Reading
 pub mod Writing

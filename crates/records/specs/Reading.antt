@@ -6,12 +6,6 @@ use Rattle.records.specs.declared.doing.Kind.{Kind}
 use Rattle.records.specs.declared.doing.Doing.{Doing}
 use Rattle.records.specs.declared.place.Place.{Place}
 use Rattle.records.specs.declared.record.Head.{Head}
-use Rattle.records.specs.declared.reading.Doings.{Doings}
-use Rattle.records.specs.declared.reading.Doings.TheVariants as doings
-use Rattle.records.specs.declared.reading.Reading.{Reading}
-use Rattle.records.specs.declared.reading.Reading.TheVariants.{Whole, Fault}
-use Rattle.records.specs.declared.reading.Files.{Files}
-use Rattle.records.specs.declared.reading.Files.TheVariants as files
 use Rattle.records.specs.Record.{Record, record_of, records_of, KindFits, DoingFits, DoingsFit, RecordFits, kind_code, letter_in, head_bytes, doing_bytes, doings_bytes, record_bytes, did_of}
 use Rattle.records.specs.Refusal.{FirstPlace, Read, FileFault, FormFault}
 
@@ -40,14 +34,13 @@ NoHead i bs = (s : Bool) (a n : ℕ) (after : List ℕ) → a ≤ 1000000 → n 
 abbrev pub Begin : List ℕ → List Doing → Type 0
 Begin bs ds = DoingsFit ds × (bs ≡ doings_bytes ds ++ drop (10 * length ds) bs)
 
--- the bytes begin with that many doings, or they do so up to the one before the fault, and there isn't a next
-abbrev pub DoingsRead : List ℕ → ℕ → Doings → Type 0
-DoingsRead bs count (doings.All v) = (vec_len v ≡ count) × Begin bs (vec_items v)
-DoingsRead bs count (doings.Fault m) = (ds : List Doing) × (length ds < count) × (m ≡ length ds + 1) × Begin bs ds × NoDoing (drop (10 * length ds) bs)
+-- of so many doings the bytes begin with those up to the one before this, and there isn't a next
+abbrev pub NoDoingAt : List ℕ → (count doing : ℕ) → Type 0
+NoDoingAt bs count m = (ds : List Doing) × (length ds < count) × (m ≡ length ds + 1) × Begin bs ds × NoDoing (drop (10 * length ds) bs)
 
-abbrev pub RecordRead : ℕ → List ℕ → Reading → Type 0
-RecordRead i bs (Whole r) = RecordFits (record_of r) × (bs ≡ record_bytes i (record_of r))
-RecordRead i bs (Fault m) = FileFault i bs m
+-- the bytes are this record of machine i's, which fits
+abbrev pub IsRecord : ℕ → List ℕ → Record → Type 0
+IsRecord i bs r = RecordFits r × (bs ≡ record_bytes i r)
 
 abbrev pub files_of : List (Vec ℕ Global) → List (List ℕ)
 files_of fs = map vec_items fs
@@ -66,10 +59,6 @@ pub record ReadAs (fs : List (List ℕ)) (rs : List Record) : Type 0 where
 pub record NoRecords (fs : List (List ℕ)) (p : Place) : Type 0 where
   pub first : FirstPlace (FormFault fs) p
   pub unread : (rs : List Record) → Read fs rs → ⊥
-
-abbrev pub FilesRead : List (List ℕ) → Files → Type 0
-FilesRead fs (files.Whole v) = ReadAs fs (records_of (vec_items v))
-FilesRead fs (files.Fault p) = NoRecords fs p
 
 -- as much of a file as tells all about it: one byte more than the longest record has
 abbrev pub beginning : List ℕ → List ℕ

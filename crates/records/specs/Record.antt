@@ -1,6 +1,7 @@
 -- What one machine recorded, and the bytes that say it.
 -- Assumes nothing.
 use Rattle.std.specs.Prelude.{ℕ, zero, suc, ◌+◌, ◌/◌, ◌%◌, ◌^◌, ◌<◌, ◌≤◌, Bool, true, false, List, [], ◌∷◌, ◌++◌, map, length, vec_items, slice_index_or}
+use Rattle.std.specs.List.{flat_map}
 use Rattle.records.specs.declared.doing.Kind.{Kind}
 use Rattle.records.specs.declared.doing.Kind.TheVariants.{Neither, Sends, Gets}
 use Rattle.records.specs.declared.doing.Doing.{Doing}
@@ -62,8 +63,7 @@ abbrev pub doing_bytes : Doing → List ℕ
 doing_bytes d = kind_code d.kind ∷ (bytes4 (letter_in d.kind) ++ (sign_byte d.sign ∷ bytes4 d.amount))
 
 abbrev pub doings_bytes : List Doing → List ℕ
-doings_bytes [] = []
-doings_bytes (d ∷ ds) = doing_bytes d ++ doings_bytes ds
+doings_bytes ds = flat_map doing_bytes ds
 
 -- nine bytes to a head: first byte, machine, first sign and amount, how many doings
 abbrev pub head_bytes : ℕ → Bool → ℕ → ℕ → List ℕ

@@ -1,6 +1,7 @@
 -- When a list of files is no list of records, or records that no run can have made, the first place at which that shows, and the bytes that say so.
 -- Assumes nothing.
 use Rattle.std.specs.Prelude.{◌≡◌, ℕ, ◌+◌, ◌<◌, ◌≤◌, Bool, ◌⊎◌, List, [], ◌∷◌, ◌++◌, length, vec_items, ◌≢◌, slice_index_or}
+use Rattle.std.specs.List.{flat_map}
 use Rattle.records.specs.declared.doing.Kind.TheVariants.{Neither, Sends, Gets}
 use Rattle.records.specs.declared.doing.Doing.{Doing}
 use Rattle.records.specs.declared.place.Place.{Place}
@@ -24,8 +25,7 @@ abbrev pub place_bytes : Place → List ℕ
 place_bytes p = p.machine ∷ bytes2 p.doing
 
 abbrev pub places_bytes : List Place → List ℕ
-places_bytes [] = []
-places_bytes (p ∷ ps) = place_bytes p ++ places_bytes ps
+places_bytes ps = flat_map place_bytes ps
 
 -- 78, the number, machine and doing of where
 abbrev pub refusal_bytes : Refusal → List ℕ
@@ -68,6 +68,13 @@ pub data FormFault (files : List (List ℕ)) : Place → Type 0 where
   no_file : length files ≡ 0 → FormFault files (record { machine = 0; doing = 0 })
   too_many : 40 < length files → FormFault files (record { machine = 40; doing = 0 })
   file : {m : ℕ} (i : ℕ) → i < length files → i < 40 → FileFault i (slice_index_or files i []) m → FormFault files (record { machine = i; doing = m })
+
+-- what is told of it: this of the place where it shows
+abbrev pub IsForm : (Place → Type 0) → Refusal → Type 0
+IsForm P (why.Form p) = P p
+IsForm P (why.Again p) = ⊥
+IsForm P (why.Unsent p) = ⊥
+IsForm P (why.Ring v) = ⊥
 
 -- 2. The doing sends what an earlier one sent, or gets what an earlier one got.
 pub record Again (rs : List Record) (p : Place) : Type 0 where

@@ -2,8 +2,8 @@
 -- Assumes nothing.
 use Rattle.std.specs.Prelude.{◌≡◌, ℕ, ◌+◌, ◌<◌, ◌≤◌, ◌⊎◌, List, ◌∷◌, ◌++◌, length, Some, None, vec_items, Option}
 use Rattle.records.specs.declared.doing.Doing.{Doing}
-use Rattle.records.specs.declared.writing.Writing.{Writing}
-use Rattle.records.specs.declared.writing.Writing.TheVariants as writing
+use Rattle.records.specs.declared.writing.Beyond as beyond
+use Rattle.records.specs.declared.writing.Beyond.TheVariants as told
 use Rattle.records.specs.Record.{Record, DoingFits, DoingsFit, RecordFits, doings_bytes, record_bytes}
 use Rattle.records.specs.Refusal.{FileFault}
 
@@ -17,11 +17,6 @@ pub record FirstBeyond (ds : List Doing) (m : ℕ) : Type 0 where
   pub fit : DoingsFit before
   pub beyond : DoingFits doing → ⊥
 
--- all doings fit and are written behind what was there, or one is the first beyond the limits
-abbrev pub DoingsWritten : List Doing → (start out : List ℕ) → Option ℕ → Type 0
-DoingsWritten ds start out None = DoingsFit ds × (out ≡ start ++ doings_bytes ds)
-DoingsWritten ds start out (Some m) = FirstBeyond ds m
-
 -- a record beyond the limits: by its amount at first or how many doings it has (0), or by its doing m, the first such
 pub data Beyond (r : Record) : ℕ → Type 0 where
   head : (1000000 < r.amount) ⊎ (500 < length r.doings) → Beyond r 0
@@ -34,6 +29,11 @@ pub record Form (i : ℕ) (r : Record) (file : List ℕ) : Type 0 where
   pub in_form : (m : ℕ) → FileFault i file m → ⊥
   pub only : (q : Record) → file ≡ record_bytes i q → q ≡ r
 
-abbrev pub RecordWritten : ℕ → Record → Writing → Type 0
-RecordWritten i r (writing.Whole v) = Form i r (vec_items v)
-RecordWritten i r (writing.Beyond m) = Beyond r m
+-- what is told of it: which doing, or what stands before
+abbrev pub IsDoing : beyond.Beyond → (ℕ → Type 0) → Type 0
+IsDoing (told.Doing m) P = P m
+IsDoing told.Head P = ⊥
+
+abbrev pub IsBeyond : Record → beyond.Beyond → Type 0
+IsBeyond r told.Head = Beyond r 0
+IsBeyond r (told.Doing m) = Beyond r m

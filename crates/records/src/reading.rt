@@ -1,34 +1,28 @@
 // Records read from bytes.
-ghost use Rattle.std.specs.Prelude.{ℕ, List, IfOk, MatchOption};
-ghost use Rattle.records.specs.Reading.{IsKind, NoKind, IsDoing, NoDoing, IsHead, NoHead, DoingsRead, RecordRead, FilesRead, files_of, BeginAlike};
+ghost use Rattle.std.specs.Prelude.{◌≡◌, ℕ, List, IfOk, MatchOption, vec_len};
+ghost use Rattle.records.specs.declared.failure.Failure.TheVariants.{Refused};
+ghost use Rattle.records.specs.declared.refusal.Refusal.TheVariants.{Form};
+ghost use Rattle.records.specs.Failure.{IfRefused};
+ghost use Rattle.records.specs.Record.{record_of, records_of};
+ghost use Rattle.records.specs.Refusal.{FileFault, IsForm};
+ghost use Rattle.records.specs.Reading.{IsKind, NoKind, IsDoing, NoDoing, IsHead, NoHead, Begin, NoDoingAt, IsRecord, ReadAs, NoRecords, files_of, BeginAlike};
 
 use crate::doing::{Doing, Kind};
+use crate::failure::Failure;
 use crate::place::Place;
 use crate::record::{Head, Record};
-use std::alloc::{AllocError, Global};
+use crate::records::Records;
+use crate::refusal::Refusal;
+use std::alloc::Global;
 
 // How much of a file tells all about it: one byte more than the longest record has.
 pub const TELLING: u64 = 5010;
 
-// What reading doings comes to: all of them, or the number of the first that the bytes don't have.
-#[derive(Drop)]
-pub(crate) enum Doings {
-    All(Vec<Doing>),
-    Fault(u16),
-}
-
-// What reading a record comes to: the record, or the number of the doing at which it shows that the file is none.
-#[derive(Drop)]
-pub(crate) enum Reading {
-    Whole(Record),
-    Fault(u16),
-}
-
-// What reading files comes to: the records, or the first place at which it shows that the files are none.
-#[derive(Drop)]
-pub enum Files {
-    Whole(Vec<Record>),
-    Fault(Place),
+// Refused, since the files are no records, which shows at this doing of this machine.
+fn at_fault(machine: u8, doing: u16) -> Failure<Refusal>
+    ensures { result ≡ Refused (Form (record { machine = machine; doing = doing })) }
+{
+    Failure::Refused(Refusal::Form(Place { machine, doing }))
 }
 
 // The kind that a byte and a letter's number say, if they do.
@@ -55,11 +49,8 @@ fn read_doing(bytes: &[u8]) -> Option<Doing>
     if amount > 1_000_000 {
         return None;
     }
-    let Some(kind) = read_kind(bytes[0], letter) else {
-        return None;
-    };
     Some(Doing {
-        kind,
+        kind: read_kind(bytes[0], letter)?,
         sign: bytes[5] == 1,
         amount,
     })
@@ -84,70 +75,60 @@ fn read_head(bytes: &[u8], machine: u8) -> Option<Head>
     })
 }
 
-// So many doings from the front of the bytes.
-fn read_doings(heap: Global, bytes: &[u8], count: u16) -> Result<Doings, AllocError>
-    ensures { IfOk result (DoingsRead bytes.now count) }
+// So many doings from the front of a machine's bytes behind its head.
+fn read_doings(
+    heap: Global,
+    bytes: &[u8],
+    machine: u8,
+    count: u16,
+) -> Result<Vec<Doing>, Failure<Refusal>>
+    ensures ok { IfOk result (λ doings. (vec_len doings ≡ count) × Begin bytes.now doings.items) }
+    ensures refused { IfRefused result (IsForm (λ place. (place.machine ≡ machine) × NoDoingAt bytes.now count place.doing)) }
 {
     let mut doings = Vec::new(heap);
-    for m in 0..count {
-        let Some(doing) = read_doing(&bytes[10 * m as usize..]) else {
-            return Ok(Doings::Fault(m + 1));
+    for before in 0..count {
+        let Some(doing) = read_doing(&bytes[10 * before as usize..]) else {
+            return Err(at_fault(machine, before + 1));
         };
         doings.push(doing)?;
     }
-    Ok(Doings::All(doings))
+    Ok(doings)
 }
 
 // The record of this machine that the bytes are, if they are one.
-fn read_record(heap: Global, bytes: &[u8], machine: u8) -> Result<Reading, AllocError>
-    ensures { IfOk result (RecordRead machine bytes.now) }
+fn read_record(heap: Global, bytes: &[u8], machine: u8) -> Result<Record, Failure<Refusal>>
+    ensures ok { IfOk result (λ recorded. IsRecord machine bytes.now (record_of recorded)) }
+    ensures refused { IfRefused result (IsForm (λ place. (place.machine ≡ machine) × FileFault machine bytes.now place.doing)) }
 {
     let Some(head) = read_head(bytes, machine) else {
-        return Ok(Reading::Fault(0));
+        return Err(at_fault(machine, 0));
     };
-    let read = read_doings(heap, &bytes[9..], head.count)?;
-    match read {
-        Doings::Fault(m) => Ok(Reading::Fault(m)),
-        Doings::All(doings) => {
-            if bytes.len() > 9 + 10 * head.count as usize {
-                return Ok(Reading::Fault(head.count));
-            }
-            Ok(Reading::Whole(Record {
-                sign: head.sign,
-                amount: head.amount,
-                doings,
-            }))
-        }
+    let doings = read_doings(heap, &bytes[9..], machine, head.count)?;
+    if bytes.len() > 9 + 10 * head.count as usize {
+        return Err(at_fault(machine, head.count));
     }
+    Ok(Record {
+        sign: head.sign,
+        amount: head.amount,
+        doings,
+    })
 }
 
 // The records that the files are, in order of machines from 0. Of a long file its telling beginning is enough: the promise
 // is for all files that begin so.
-pub fn read_files(heap: Global, files: &[Vec<u8>]) -> Result<Files, AllocError>
-    ensures { IfOk result (λ x. (whole : List (List ℕ)) → BeginAlike whole (files_of files.now) → FilesRead whole x) }
+pub fn read_files(heap: Global, files: &[Vec<u8>]) -> Result<Records, Failure<Refusal>>
+    ensures ok { IfOk result (λ records. (whole : List (List ℕ)) → BeginAlike whole (files_of files.now) → ReadAs whole (records_of records.list.items)) }
+    ensures refused { IfRefused result (IsForm (λ place. (whole : List (List ℕ)) → BeginAlike whole (files_of files.now) → NoRecords whole place)) }
 {
     if files.is_empty() {
-        return Ok(Files::Fault(Place {
-            machine: 0,
-            doing: 0,
-        }));
+        return Err(at_fault(0, 0));
     }
-    let mut records = Vec::new(heap);
-    for i in 0..files.len() {
-        if i == 40 {
-            return Ok(Files::Fault(Place {
-                machine: 40,
-                doing: 0,
-            }));
+    let mut list = Vec::new(heap);
+    for (machine, file) in files.iter().enumerate() {
+        if machine == 40 {
+            return Err(at_fault(40, 0));
         }
-        let reading = read_record(heap, &files[i], i as u8)?;
-        match reading {
-            Reading::Fault(doing) => return Ok(Files::Fault(Place {
-                machine: i as u8,
-                doing,
-            })),
-            Reading::Whole(record) => records.push(record)?,
-        }
+        list.push(read_record(heap, file, machine as u8)?)?;
     }
-    Ok(Files::Whole(records))
+    Ok(Records { list })
 }

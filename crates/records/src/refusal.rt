@@ -1,7 +1,8 @@
 // Refusals: what can't have been, where that shows, and the bytes that say it.
-ghost use Rattle.std.specs.Prelude.{◌≡◌, ◌++◌, IfOk, OnOk};
-ghost use Rattle.records.specs.Refusal.{refusal_number, refusal_places, place_bytes, places_bytes, refusal_bytes};
+ghost use Rattle.std.specs.Prelude.{◌≡◌, IfOk};
+ghost use Rattle.records.specs.Refusal.{refusal_number, refusal_places, place_bytes, refusal_bytes};
 
+use crate::bytes::{Bytes, put_each};
 use crate::place::Place;
 use std::alloc::{AllocError, Global};
 
@@ -18,21 +19,14 @@ pub enum Refusal {
     Ring(Vec<Place>),
 }
 
-fn place_bytes(place: Place) -> [u8; 3]
-    ensures { result ≡ place_bytes place }
-{
-    let doing = place.doing.to_be_bytes();
-    [place.machine, doing[0], doing[1]]
-}
+impl Bytes for Place {
+    ghost bytes = { place_bytes };
 
-// Puts the places' bytes behind what is there.
-fn push_places(out: &mut Vec<u8>, places: &[Place]) -> Result<(), AllocError>
-    ensures { OnOk result (out.new.items ≡ out.old.items ++ places_bytes places.now) }
-{
-    for k in 0..places.len() {
-        out.extend_from_slice(&place_bytes(places[k]))?;
+    fn put(&self, out: &mut Vec<u8>) -> Result<(), AllocError> {
+        let doing = self.doing.to_be_bytes();
+        out.extend_from_slice(&[self.machine, doing[0], doing[1]])?;
+        Ok(())
     }
-    Ok(())
 }
 
 impl Refusal {
@@ -69,7 +63,7 @@ impl Refusal {
         let mut bytes = Vec::new(heap);
         bytes.push(78)?;
         bytes.push(self.number())?;
-        push_places(&mut bytes, &places)?;
+        put_each(&places, &mut bytes)?;
         Ok(bytes)
     }
 }

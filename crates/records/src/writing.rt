@@ -1,109 +1,129 @@
 // Records written as bytes.
-ghost use Rattle.std.specs.Prelude.{◌≡◌, ◌≤◌, T, length, IfOk};
-ghost use Rattle.records.specs.Record.{record_of, DoingFits, kind_code, letter_in, head_bytes, doing_bytes};
-ghost use Rattle.records.specs.Writing.{DoingsWritten, RecordWritten};
+ghost use Rattle.std.specs.Prelude.{◌≡◌, ◌↔◌, ◌≤◌, IsTrue, length, IfOk, OnOk, ◌++◌};
+ghost use Rattle.records.specs.Record.{record_of, DoingFits, DoingsFit, kind_code, letter_in, head_bytes, doing_bytes, doings_bytes};
+ghost use Rattle.records.specs.Failure.{IfRefused};
+ghost use Rattle.records.specs.Writing.{FirstBeyond, Form, IsBeyond, IsDoing};
 
+use crate::bytes::Bytes;
 use crate::doing::{Doing, Kind};
+use crate::failure::Failure;
 use crate::record::{Head, Record};
 use std::alloc::{AllocError, Global};
 
-// What writing a record comes to: its bytes, or the number of the first doing that is beyond the limits (0: what stands before).
-#[derive(Drop)]
-pub enum Writing {
-    Whole(Vec<u8>),
-    Beyond(u16),
+// What of a record is the first that is beyond the limits: what stands before its doings, or the doing of this number.
+#[derive(Clone, Copy)]
+pub enum Beyond {
+    Head,
+    Doing(u16),
 }
 
-// The byte that says a kind.
-fn code(kind: Kind) -> u8
-    ensures { result ≡ kind_code kind }
-{
-    match kind {
-        Kind::Neither => 0,
-        Kind::Sends(_) => 1,
-        Kind::Gets(_) => 2,
+impl Kind {
+    // The byte that says it.
+    fn code(self) -> u8
+        ensures { result ≡ kind_code self }
+    {
+        match self {
+            Kind::Neither => 0,
+            Kind::Sends(_) => 1,
+            Kind::Gets(_) => 2,
+        }
+    }
+
+    // The letter's number, 0 where there is none.
+    fn letter(self) -> u32
+        ensures { result ≡ letter_in self }
+    {
+        match self {
+            Kind::Neither => 0,
+            Kind::Sends(letter) | Kind::Gets(letter) => letter,
+        }
     }
 }
 
-// The letter's number, 0 where there is none.
-fn letter(kind: Kind) -> u32
-    ensures { result ≡ letter_in kind }
-{
-    match kind {
-        Kind::Neither => 0,
-        Kind::Sends(letter) | Kind::Gets(letter) => letter,
+impl Doing {
+    // Is it within the limits.
+    fn fits(self) -> bool
+        ensures { IsTrue result ↔ DoingFits self }
+    {
+        let numbered = match self.kind {
+            Kind::Neither => true,
+            Kind::Sends(letter) | Kind::Gets(letter) => letter > 0,
+        };
+        numbered && self.amount <= 1_000_000
     }
 }
 
-// Is a doing within the limits.
-fn within_limits(doing: Doing) -> bool
-    ensures { ((T result → DoingFits doing)) × ((DoingFits doing → T result)) }
-{
-    let numbered = match doing.kind {
-        Kind::Neither => true,
-        Kind::Sends(letter) | Kind::Gets(letter) => letter > 0,
-    };
-    numbered && doing.amount <= 1_000_000
+impl Bytes for Doing {
+    ghost bytes = { doing_bytes };
+
+    fn put(&self, out: &mut Vec<u8>) -> Result<(), AllocError> {
+        let l = self.kind.letter().to_be_bytes();
+        let a = self.amount.to_be_bytes();
+        out.extend_from_slice(&[
+            self.kind.code(),
+            l[0],
+            l[1],
+            l[2],
+            l[3],
+            self.sign as u8,
+            a[0],
+            a[1],
+            a[2],
+            a[3],
+        ])?;
+        Ok(())
+    }
 }
 
-fn doing_bytes(doing: Doing) -> [u8; 10]
-    ensures { result ≡ doing_bytes doing }
-{
-    let l = letter(doing.kind).to_be_bytes();
-    let a = doing.amount.to_be_bytes();
-    [
-        code(doing.kind),
-        l[0],
-        l[1],
-        l[2],
-        l[3],
-        doing.sign as u8,
-        a[0],
-        a[1],
-        a[2],
-        a[3],
-    ]
-}
-
-fn head_bytes(head: Head, machine: u8) -> [u8; 9]
-    ensures { result ≡ head_bytes machine head.sign head.amount head.count }
-{
-    let a = head.amount.to_be_bytes();
-    let c = head.count.to_be_bytes();
-    [
-        82,
-        machine,
-        head.sign as u8,
-        a[0],
-        a[1],
-        a[2],
-        a[3],
-        c[0],
-        c[1],
-    ]
+impl Head {
+    // Puts its bytes, as this machine's, behind what is there.
+    fn put(self, machine: u8, out: &mut Vec<u8>) -> Result<(), AllocError>
+        ensures { OnOk result (out.new.items ≡ out.old.items ++ head_bytes machine self.sign self.amount self.count) }
+    {
+        let a = self.amount.to_be_bytes();
+        let c = self.count.to_be_bytes();
+        out.extend_from_slice(&[
+            82,
+            machine,
+            self.sign as u8,
+            a[0],
+            a[1],
+            a[2],
+            a[3],
+            c[0],
+            c[1],
+        ])?;
+        Ok(())
+    }
 }
 
 // Puts the doings' bytes behind what is there, up to the first that is beyond the limits.
-fn write_doings(doings: &[Doing], out: &mut Vec<u8>) -> Result<Option<u16>, AllocError>
+fn write_doings(doings: &[Doing], out: &mut Vec<u8>) -> Result<(), Failure<Beyond>>
     requires few { length doings.now ≤ 500 }
-    ensures { IfOk result (DoingsWritten doings.now out.old.items out.new.items) }
+    ensures ok { OnOk result (DoingsFit doings.now × (out.new.items ≡ out.old.items ++ doings_bytes doings.now)) }
+    ensures refused { IfRefused result (λ beyond. IsDoing beyond (FirstBeyond doings.now)) }
 {
-    for k in 0..doings.len() {
-        if !within_limits(doings[k]) {
-            return Ok(Some((k + 1) as u16));
+    for (before, doing) in doings.iter().enumerate() {
+        if !doing.fits() {
+            return Err(Failure::Refused(Beyond::Doing((before + 1) as u16)));
         }
-        out.extend_from_slice(&doing_bytes(doings[k]))?;
+        doing.put(out)?;
     }
-    Ok(None)
+    Ok(())
 }
 
 // The bytes of a record as this machine's.
-pub fn write_record(heap: Global, recorded: &Record, machine: u8) -> Result<Writing, AllocError>
-    ensures { IfOk result (RecordWritten machine (record_of recorded.now)) }
+pub fn write_record(
+    heap: Global,
+    recorded: &Record,
+    machine: u8,
+) -> Result<Vec<u8>, Failure<Beyond>>
+    ensures ok { IfOk result (λ bytes. Form machine (record_of recorded.now) bytes.items) }
+    ensures refused { IfRefused result (IsBeyond (record_of recorded.now)) }
 {
     let doings = recorded.doings.as_slice();
     if recorded.amount > 1_000_000 || doings.len() > 500 {
-        return Ok(Writing::Beyond(0));
+        return Err(Failure::Refused(Beyond::Head));
     }
     let head = Head {
         sign: recorded.sign,
@@ -111,10 +131,7 @@ pub fn write_record(heap: Global, recorded: &Record, machine: u8) -> Result<Writ
         count: doings.len() as u16,
     };
     let mut bytes = Vec::new(heap);
-    bytes.extend_from_slice(&head_bytes(head, machine))?;
-    let beyond = write_doings(doings, &mut bytes)?;
-    if let Some(doing) = beyond {
-        return Ok(Writing::Beyond(doing));
-    }
-    Ok(Writing::Whole(bytes))
+    head.put(machine, &mut bytes)?;
+    write_doings(doings, &mut bytes)?;
+    Ok(bytes)
 }

@@ -4,5 +4,9 @@ use Rattle.records.specs.Refusal.{ReadFrom}
 use Rattle.records.specs.Reading.{files_of}
 use Rattle.records.proofs.reading.read_files.Given as goal
 
-abbrev pub invariant-loop-i : goal.invariant-loop-i
-invariant-loop-i l = (vec_len l.records ≡ l.i) × (l.i ≤ 40) × ReadFrom 0 (take l.i (files_of l.files)) (records_of (vec_items l.records))
+abbrev pub invariant-loop-machine : goal.invariant-loop-machine
+invariant-loop-machine l = record {
+  many : vec_len l.list ≡ l.machine;
+  few : l.machine ≤ 40;
+  read : ReadFrom 0 (take l.machine (files_of l.files)) (records_of (vec_items l.list));
+}

@@ -1,19 +1,28 @@
-use Rattle.std.proofs.Common.{vec_items, arith}
+use Rattle.std.proofs.Common.{◌≡◌, ℕ, refl, subst, sym, vec_items, arith}
+use Rattle.records.specs.Refusal.{FileFault}
+use Rattle.records.specs.Reading.{Begin, NoDoingAt}
+use Rattle.records.proofs.HandedOn.{handed_on, form_weaker}
 use Rattle.records.proofs.OneFile.{no_head, behind, doing_fault, too_long, whole}
 use Rattle.records.proofs.reading.read_record.Goals as goal
 
-pub returns-in_default : goal.returns-in_default
-returns-in_default c = no_head c.args.machine c.args.bytes.now c.in_default.ensures
+pub returns-in_default-clause-refused : goal.returns-in_default-clause-refused
+returns-in_default-clause-refused c = rw c.at_fault.ensures (refl, no_head c.args.machine c.args.bytes.now c.in_default.ensures)
 
-pub returns-in-Fault : goal.returns-in-Fault
-returns-in-Fault c = doing_fault c.args.machine c.args.bytes.now c.in-Some.head c.in-Fault.m c.in-Some.ensures (behind c.args.bytes.now _ _ _ c.in-Fault.is c.in_ok-read.ensures)
+pub returns-in_err-doings-clause-refused : goal.returns-in_err-doings-clause-refused
+returns-in_err-doings-clause-refused c =
+    let i = c.args.machine in
+    let bs = c.args.bytes.now in
+    handed_on c.from_residual.result c.in_err-doings.field-0.0 _ _ c.from_residual.ensures.1
+    (form_weaker _ _ (λ p no. (no.0, doing_fault i bs c.in-Some.head p.doing c.in-Some.ensures (behind (λ xs. NoDoingAt xs c.in-Some.head.count p.doing) bs no.1))))
+    c.in_err-doings.ensures.refused
 
-pub returns-then-bytes-head : goal.returns-then-bytes-head
-returns-then-bytes-head c =
-    let all = behind c.args.bytes.now _ _ _ c.in-All.is c.in_ok-read.ensures in
-    too_long c.args.machine c.args.bytes.now c.in-Some.head (vec_items c.in-All.doings) c.in-Some.ensures (omega (arith, c.in-All.doings.ok.0, all.0)) all.1 (omega arith)
+pub returns-then-bytes-head-clause-refused : goal.returns-then-bytes-head-clause-refused
+returns-then-bytes-head-clause-refused c =
+    let all = behind (λ xs. Begin xs (vec_items c.in_ok-doings.doings)) c.args.bytes.now c.in_ok-doings.ensures.ok.1 in
+    rw c.at_fault-then-bytes-head.ensures
+    (refl, too_long c.args.machine c.args.bytes.now c.in-Some.head (vec_items c.in_ok-doings.doings) c.in-Some.ensures (omega (arith, c.in_ok-doings.doings.ok.0, c.in_ok-doings.ensures.ok.0)) all (omega arith))
 
-pub returns-else-bytes-head : goal.returns-else-bytes-head
-returns-else-bytes-head c =
-    let all = behind c.args.bytes.now _ _ _ c.in-All.is c.in_ok-read.ensures in
-    whole c.args.machine c.args.bytes.now c.in-Some.head (vec_items c.in-All.doings) c.in-Some.ensures (omega (arith, c.in-All.doings.ok.0, all.0)) all.1 (omega arith)
+pub returns-clause-ok : goal.returns-clause-ok
+returns-clause-ok c =
+    let all = behind (λ xs. Begin xs (vec_items c.in_ok-doings.doings)) c.args.bytes.now c.in_ok-doings.ensures.ok.1 in
+    whole c.args.machine c.args.bytes.now c.in-Some.head (vec_items c.in_ok-doings.doings) c.in-Some.ensures (omega (arith, c.in_ok-doings.doings.ok.0, c.in_ok-doings.ensures.ok.0)) all (omega arith)

@@ -1,0 +1,27 @@
+// Why a call gave nothing.
+ghost use Rattle.records.specs.Failure.{IsNoMemory};
+
+use std::alloc::{AllocError, AllocFailed};
+
+// What was handed over is refused, and why; or memory ran out.
+#[derive(Drop)]
+pub enum Failure<E> {
+    Refused(E),
+    NoMemory(AllocError),
+}
+
+impl<E> From<AllocError> for Failure<E> {
+    ghost from_gives = { λ _ failure. IsNoMemory failure };
+
+    fn from(error: AllocError) -> Failure<E> {
+        Failure::NoMemory(error)
+    }
+}
+
+impl<E, T: Drop> From<AllocFailed<T>> for Failure<E> {
+    ghost from_gives = { λ _ failure. IsNoMemory failure };
+
+    fn from(error: AllocFailed<T>) -> Failure<E> {
+        Failure::NoMemory(AllocError::from(error))
+    }
+}
