@@ -10,9 +10,9 @@ use Rattle.records.specs.Refusal.{Earlier, FirstPlace, Again}
 use Rattle.records.specs.declared.place.Place.{Place}
 use Rattle.letters.specs.declared.seen.Seen.{Seen}
 use Rattle.letters.specs.Seen.{seen_at, Nothing, Put}
-use Rattle.letters.specs.Noting.{place, Sofar, Noted, NotedTo, MachineNoted}
+use Rattle.letters.specs.Noting.{place, Sofar, Noted}
 use Rattle.records.proofs.KindEquality.{same_or_not}
-use Rattle.letters.proofs.Machines.{part_is, within}
+use Rattle.letters.proofs.Machines.{within}
 
 pub there : (o : Option Place) → is_some o ≡ true → (x : Place) × (o ≡ Some x)
 there None h = absurd (true≢false (sym h))
@@ -130,10 +130,3 @@ module _ (rs : List Record) where
         all = λ i m some. so.all (place i m) (inl (let w = within rs i m some in omega (arith, w.0))) some;
         once = λ q h. so.once q (inl (let w = again_within q h in omega (arith, w.0))) h;
       }
-
--- of the program's values: machine i's part handed on, and the match's arm
-pub noted_to : (rs : List code.Record) (i : ℕ) (d : code.Record) (ds : List Doing) (s t : Seen) (x y : Option Place) → i < length rs → ds ≡ vec_items (get_or rs i d).doings → x ≡ y
-    → MachineNoted i ds s t x → Sofar (records_of rs) (place i 1) s → NotedTo (records_of rs) i t y
-noted_to rs i d ds s t x y lt e same h so =
-    let P : Option Place → Type 0 = NotedTo (records_of rs) i t in
-    subst P same (h (records_of rs) (part_is rs i d ds lt e) so)

@@ -13,8 +13,8 @@ use Rattle.letters.specs.declared.letter.Letter.{Letter}
 use Rattle.letters.specs.declared.seen.Seen.{Seen}
 use Rattle.letters.specs.Seen.{seen_at}
 use Rattle.letters.specs.Noting.{place, Noted}
-use Rattle.letters.specs.Matching.{got_at, Rising, Linked, LettersOf, MatchedTo, MachineMatched}
-use Rattle.letters.proofs.Machines.{part_is, within}
+use Rattle.letters.specs.Matching.{got_at, Rising, Linked, LettersOf}
+use Rattle.letters.proofs.Machines.{within}
 use Rattle.letters.proofs.InOrder.{upto, later, crossed, early}
 
 pub not_neither : (k : Kind) (l : ℕ) → k ≡ Gets l → k ≡ Neither → ⊥
@@ -148,10 +148,3 @@ module _ (rs : List Record) where
             let same = one_sender noted.once (place l.0.from l.0.sent) (place i m) k (known.1 ∙ ap Sends (one_letter _ _ _ known.2 at_it)) sent in
             (l.0, l.1, same.0, same.1, l.2, l.3);
       }
-
--- of the program's values: machine i's part handed on, and the match's arm
-pub matched_to : (rs : List code.Record) (i : ℕ) (d : code.Record) (ds : List Doing) (s : Seen) (ls ls' : List Letter) (x y : Option Place) → i < length rs → ds ≡ vec_items (get_or rs i d).doings → x ≡ y
-    → MachineMatched i ds s ls ls' x → Noted (records_of rs) s → Linked (records_of rs) (place i 1) ls → MatchedTo (records_of rs) i ls' y
-matched_to rs i d ds s ls ls' x y lt e same h noted linked =
-    let P : Option Place → Type 0 = MatchedTo (records_of rs) i ls' in
-    subst P same (h (records_of rs) (part_is rs i d ds lt e) noted linked)

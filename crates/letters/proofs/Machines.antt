@@ -1,6 +1,8 @@
 -- One machine's doings among the records.
 use Rattle.std.proofs.Common.{◌≡◌, ℕ, zero, suc, ◌+◌, ◌<◌, ◌≤◌, List, [], ◌∷◌, length, get_or, take, vec_items, vec_len, sym, refl, ap, ◌∙◌, add-one, arith}
-use Rattle.std.proofs.lemmas.List.{get_or-map}
+use Rattle.std.specs.Prelude.{sum_by}
+use Rattle.std.proofs.lemmas.List.{get_or-map, length-map}
+use Rattle.std.proofs.lemmas.List.Sums.{sum_by-cons, sum_by-le}
 use Rattle.records.specs.declared.doing.Kind.TheVariants.{Neither}
 use Rattle.records.specs.declared.doing.Doing.{Doing}
 use Rattle.records.specs.declared.record.Record as code
@@ -9,6 +11,12 @@ use Rattle.records.specs.Record.{Record, record_of, records_of, none, machine_of
 -- machine i's doings, as its part of the slice has them
 pub part_is : (rs : List code.Record) (i : ℕ) (d : code.Record) (ds : List Doing) → i < length rs → ds ≡ vec_items (get_or rs i d).doings → (machine_of (records_of rs) i).doings ≡ ds
 part_is rs i d ds lt e = ap (λ (r : Record). r.doings) (get_or-map record_of rs i d none lt) ∙ sym e
+
+-- of the program's values: a machine's record, as a loop over them all has it
+pub short_at : (rs vs : List code.Record) (i : ℕ) (r : code.Record) (ds : List Doing) → vs ≡ rs → ((j : ℕ) → did_of (records_of rs) j ≤ 500) → i < length vs → r ≡ get_or vs i r → ds ≡ vec_items r.doings → length ds ≤ 500
+short_at rs vs i r ds e short lt is d =
+    let part : (machine_of (records_of vs) i).doings ≡ ds = part_is vs i r ds lt (d ∙ ap (λ (x : code.Record). vec_items x.doings) is) in
+    omega (arith, short i, ap length part, ap (λ (xs : List code.Record). did_of (records_of xs) i) e)
 
 kind_in_lem : (ds : List Doing) (k : ℕ) (d : Doing) → k < length ds → kind_in ds (suc k) ≡ (get_or ds k d).kind
 kind_in_lem [] k d lt = absurd (omega arith)
@@ -48,3 +56,11 @@ doings_more rs i lt = rw add-one (go rs i lt)
     go [] j lj = absurd (omega arith)
     go (q ∷ qs) zero lj = omega arith
     go (q ∷ qs) (suc j) lj = omega (arith, go qs j (omega arith))
+
+-- how many there are in all, as the code adds them
+pub doings_added : (rs : List code.Record) → doings_in (records_of rs) ≡ sum_by (λ (r : code.Record). vec_len r.doings) rs
+doings_added [] = refl
+doings_added (r ∷ rs) = omega (arith, r.doings.ok.0, doings_added rs, sum_by-cons (λ (q : code.Record). vec_len q.doings) r rs)
+
+pub few_doings : (rs : List code.Record) → length (records_of rs) ≤ 40 → ((i : ℕ) → did_of (records_of rs) i ≤ 500) → sum_by (λ (r : code.Record). vec_len r.doings) rs ≤ 20000
+few_doings rs few short = omega (arith, length-map rs record_of, sum_by-le (λ (r : code.Record). vec_len r.doings) 500 rs (λ k d lt. omega (arith, did_is rs k d lt, short k)))

@@ -5,13 +5,12 @@ use mathlib.Core.List.{Memᴰ}
 use Rattle.records.specs.declared.doing.Kind.TheVariants.{Sends, Gets}
 use Rattle.records.specs.declared.doing.Doing.{Doing}
 use Rattle.records.specs.declared.place.Place.{Place}
+use Rattle.records.specs.declared.refusal.Refusal.{Refusal}
 use Rattle.records.specs.Record.{Record, machine_of, kind_of}
 use Rattle.records.specs.Refusal.{Earlier, FirstPlace, Again, Unsent}
 use Rattle.letters.specs.declared.letter.Letter.{Letter}
 use Rattle.letters.specs.declared.seen.Seen.{Seen}
-use Rattle.letters.specs.declared.matching.Matching.{Matching}
-use Rattle.letters.specs.declared.matching.Matching.TheVariants as matching
-use Rattle.letters.specs.Noting.{place, Noted}
+use Rattle.letters.specs.Noting.{place, Noted, Wrong}
 
 abbrev pub got_at : Letter → Place
 got_at l = place l.to l.got
@@ -40,15 +39,9 @@ pub record LettersOf (rs : List Record) (ls : List Letter) : Type 0 where
   pub rising : Rising ls
   pub all : (i m j n k : ℕ) → kind_of rs i m ≡ Sends k → kind_of rs j n ≡ Gets k → (l : Letter) × Memᴰ l ls × (l.from ≡ i) × (l.sent ≡ m) × (l.to ≡ j) × (l.got ≡ n)
 
--- whatever records machine i's doings ds are of: with all doings noted, and the letters of the machines before it in ls, its letters are in ls', too, or it shows the first unsent
-abbrev pub MatchedTo : List Record → ℕ → List Letter → Option Place → Type 0
-MatchedTo rs i ls None = Linked rs (place (i + 1) 1) ls
-MatchedTo rs i ls (Some p) = FirstPlace (Unsent rs) p
+-- whatever records machine i's doings ds are of: with all doings noted, and the letters of the machines before it in ls, its letters are in ls', too; or it shows the first unsent
+abbrev pub MachineMatched : ℕ → List Doing → Seen → (ls ls' : List Letter) → Type 0
+MachineMatched i ds s ls ls' = (rs : List Record) → (machine_of rs i).doings ≡ ds → Noted rs s → Linked rs (place i 1) ls → Linked rs (place (i + 1) 1) ls'
 
-abbrev pub MachineMatched : ℕ → List Doing → Seen → (ls ls' : List Letter) → Option Place → Type 0
-MachineMatched i ds s ls ls' found = (rs : List Record) → (machine_of rs i).doings ≡ ds → Noted rs s → Linked rs (place i 1) ls → MatchedTo rs i ls' found
-
-abbrev pub AllMatched : List Record → Matching → Type 0
-AllMatched rs (matching.All v) = LettersOf rs (vec_items v)
-AllMatched rs (matching.Again p) = FirstPlace (Again rs) p
-AllMatched rs (matching.Unsent p) = ((q : Place) → Again rs q → ⊥) × FirstPlace (Unsent rs) p
+abbrev pub Unmatched : ℕ → List Doing → Seen → List Letter → Refusal → Type 0
+Unmatched i ds s ls why = (rs : List Record) → (machine_of rs i).doings ≡ ds → Noted rs s → Linked rs (place i 1) ls → Wrong rs why

@@ -7,8 +7,7 @@ use Rattle.records.specs.declared.refusal.Refusal.TheVariants as why
 use Rattle.records.specs.Record.{Record, records_of}
 use Rattle.records.specs.Refusal.{FirstPlace, Again, Unsent}
 use Rattle.records.specs.Reading.{ReadAs, NoRecords}
-use Rattle.letters.specs.declared.recorded.Recorded.{Recorded}
-use Rattle.letters.specs.declared.recorded.Recorded.TheVariants.{Run, Refused}
+use Rattle.letters.specs.declared.matched.Matched.{Matched}
 use Rattle.letters.specs.Matching.{LettersOf}
 
 -- rightly refused: 2 only where the files are records, 3 only where besides nothing is sent or got twice; what comes before what is not looked at
@@ -18,6 +17,6 @@ RefusedFor fs (why.Again p) = (rs : List Record) × ReadAs fs rs × FirstPlace (
 RefusedFor fs (why.Unsent p) = (rs : List Record) × ReadAs fs rs × ((q : Place) → Again rs q → ⊥) × FirstPlace (Unsent rs) p
 RefusedFor fs (why.Ring v) = ⊥
 
-abbrev pub RecordedAs : List (List ℕ) → Recorded → Type 0
-RecordedAs fs (Run m) = ReadAs fs (records_of (vec_items m.records)) × LettersOf (records_of (vec_items m.records)) (vec_items m.letters)
-RecordedAs fs (Refused why) = RefusedFor fs why
+-- the files are these records, and the letters are theirs
+abbrev pub RecordedAs : List (List ℕ) → Matched → Type 0
+RecordedAs fs m = ReadAs fs (records_of (vec_items m.records.list)) × LettersOf (records_of (vec_items m.records.list)) (vec_items m.letters)

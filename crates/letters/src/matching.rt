@@ -1,25 +1,19 @@
 // Letters that were got, each with its sending.
-ghost use Rattle.std.specs.Prelude.{◌≤◌, length, IfOk};
+ghost use Rattle.std.specs.Prelude.{◌≤◌, length, IfOk, OnOk};
+ghost use Rattle.records.specs.Failure.{IfRefused};
 ghost use Rattle.records.specs.Record.{records_of};
-ghost use Rattle.letters.specs.Noting.{Few, Noted};
-ghost use Rattle.letters.specs.Matching.{MachineMatched, AllMatched};
+ghost use Rattle.letters.specs.Noting.{Noted, Wrong};
+ghost use Rattle.letters.specs.Matching.{MachineMatched, Unmatched, LettersOf};
 
 use crate::letter::Letter;
-use crate::noting::{Noting, note_all};
+use crate::noting::note_all;
 use crate::seen::Seen;
 use records::doing::{Doing, Kind};
+use records::failure::Failure;
 use records::place::Place;
-use records::record::Record;
-use std::alloc::{AllocError, Global};
-
-// What matching comes to: the letters that were got, or the first doing that does again what an earlier one did, or else the
-// first that gets what nobody sent.
-#[derive(Drop)]
-pub(crate) enum Matching {
-    All(Vec<Letter>),
-    Again(Place),
-    Unsent(Place),
-}
+use records::records::Records;
+use records::refusal::Refusal;
+use std::alloc::Global;
 
 // Puts the letters that one machine got behind those of the machines before it, up to the first that nobody sent.
 fn match_machine(
@@ -27,20 +21,21 @@ fn match_machine(
     seen: &Seen,
     machine: u8,
     doings: &[Doing],
-) -> Result<Option<Place>, AllocError>
+) -> Result<(), Failure<Refusal>>
     requires short { length doings.now ≤ 500 }
-    ensures { IfOk result (MachineMatched machine doings.now seen.now letters.old.items letters.new.items) }
+    ensures ok { OnOk result (MachineMatched machine doings.now seen.now letters.old.items letters.new.items) }
+    ensures refused { IfRefused result (Unmatched machine doings.now seen.now letters.old.items) }
 {
-    for k in 0..doings.len() {
-        let Kind::Gets(letter) = doings[k].kind else {
+    for (before, doing) in doings.iter().enumerate() {
+        let Kind::Gets(letter) = doing.kind else {
             continue;
         };
-        let got = (k + 1) as u16;
+        let got = (before + 1) as u16;
         let Some(sender) = seen.sender(letter) else {
-            return Ok(Some(Place {
+            return Err(Failure::Refused(Refusal::Unsent(Place {
                 machine,
                 doing: got,
-            }));
+            })));
         };
         letters.push(Letter {
             from: sender.machine,
@@ -49,33 +44,30 @@ fn match_machine(
             got,
         })?;
     }
-    Ok(None)
+    Ok(())
 }
 
 // The letters that were got, all doings being noted.
-fn match_all(heap: Global, seen: &Seen, records: &[Record]) -> Result<Matching, AllocError>
-    requires few { Few (records_of records.now) }
-    requires noted { Noted (records_of records.now) seen.now }
-    ensures { IfOk result (AllMatched (records_of records.now)) }
+fn match_all(heap: Global, seen: &Seen, records: &Records) -> Result<Vec<Letter>, Failure<Refusal>>
+    requires noted { Noted (records_of records.now.list.items) seen.now }
+    ensures ok { IfOk result (λ letters. LettersOf (records_of records.now.list.items) letters.items) }
+    ensures refused { IfRefused result (Wrong (records_of records.now.list.items)) }
 {
     let mut letters = Vec::new(heap);
-    for i in 0..records.len() {
-        let unsent = match_machine(&mut letters, seen, i as u8, &records[i].doings)?;
-        if let Some(place) = unsent {
-            return Ok(Matching::Unsent(place));
-        }
+    for (machine, recorded) in records.list.iter().enumerate() {
+        match_machine(&mut letters, seen, machine as u8, &recorded.doings)?;
     }
-    Ok(Matching::All(letters))
+    Ok(letters)
 }
 
 // The letters that were got, each with its sending.
-pub(crate) fn match_letters(heap: Global, records: &[Record]) -> Result<Matching, AllocError>
-    requires few { Few (records_of records.now) }
-    ensures { IfOk result (AllMatched (records_of records.now)) }
+pub(crate) fn match_letters(
+    heap: Global,
+    records: &Records,
+) -> Result<Vec<Letter>, Failure<Refusal>>
+    ensures ok { IfOk result (λ letters. LettersOf (records_of records.now.list.items) letters.items) }
+    ensures refused { IfRefused result (Wrong (records_of records.now.list.items)) }
 {
-    let noting = note_all(heap, records)?;
-    match noting {
-        Noting::Again(place) => Ok(Matching::Again(place)),
-        Noting::All(seen) => match_all(heap, &seen, records),
-    }
+    let seen = note_all(heap, records)?;
+    match_all(heap, &seen, records)
 }

@@ -1,32 +1,27 @@
 // Who sent and who got each letter, noted doing by doing.
-ghost use Rattle.std.specs.Prelude.{◌≡◌, ◌<◌, ◌≤◌, length, IfOk};
+ghost use Rattle.std.specs.Prelude.{◌≡◌, ◌<◌, ◌≤◌, length, IfOk, OnOk};
+ghost use Rattle.records.specs.Failure.{IfRefused};
 ghost use Rattle.records.specs.declared.doing.Kind.TheVariants.{Sends};
 ghost use Rattle.records.specs.Record.{records_of};
 ghost use Rattle.std.specs.BTreeMap.{get};
 ghost use Rattle.letters.specs.Seen.{NotedIn, seen_at, Nothing, Put};
-ghost use Rattle.letters.specs.Noting.{Few, MachineNoted, AllNoted};
+ghost use Rattle.letters.specs.Noting.{MachineNoted, NotedAgain, Noted, Wrong};
 ghost use Rattle.std.specs.Ordering.{nat_cmp};
 
 use crate::seen::Seen;
 use records::doing::{Doing, Kind};
+use records::failure::Failure;
 use records::place::Place;
-use records::record::Record;
+use records::records::Records;
+use records::refusal::Refusal;
 use std::alloc::{AllocError, Global};
 use std::collections::BTreeMap;
-
-// What noting all doings comes to: who sent and got what, or the first doing that does again what an earlier one did.
-#[derive(Drop)]
-pub(crate) enum Noting {
-    All(Seen),
-    Again(Place),
-}
 
 // Notes the doing that did something with a letter, and says whether one was noted already.
 fn note(map: &mut BTreeMap<u32, Place>, letter: u32, place: Place) -> Result<bool, AllocError>
     ensures notes { IfOk result (NotedIn map.old map.new letter place) }
 {
-    let earlier = map.insert(letter, place)?;
-    Ok(earlier.is_some())
+    Ok(map.insert(letter, place)?.is_some())
 }
 
 // The doing that is noted for a letter.
@@ -66,34 +61,31 @@ impl Seen {
 }
 
 // Notes one machine's doings, up to the first that does again what an earlier one did.
-fn note_machine(seen: &mut Seen, machine: u8, doings: &[Doing]) -> Result<Option<Place>, AllocError>
+fn note_machine(seen: &mut Seen, machine: u8, doings: &[Doing]) -> Result<(), Failure<Refusal>>
     requires short { length doings.now ≤ 500 }
-    ensures { IfOk result (MachineNoted machine doings.now seen.old seen.new) }
+    ensures ok { OnOk result (MachineNoted machine doings.now seen.old seen.new) }
+    ensures refused { IfRefused result (NotedAgain machine doings.now seen.old) }
 {
-    for k in 0..doings.len() {
+    for (before, doing) in doings.iter().enumerate() {
         let here = Place {
             machine,
-            doing: (k + 1) as u16,
+            doing: (before + 1) as u16,
         };
-        let again = seen.put(doings[k].kind, here)?;
-        if again {
-            return Ok(Some(here));
+        if seen.put(doing.kind, here)? {
+            return Err(Failure::Refused(Refusal::Again(here)));
         }
     }
-    Ok(None)
+    Ok(())
 }
 
 // Notes all doings, by machine, then doing.
-pub(crate) fn note_all(heap: Global, records: &[Record]) -> Result<Noting, AllocError>
-    requires few { Few (records_of records.now) }
-    ensures { IfOk result (AllNoted (records_of records.now)) }
+pub(crate) fn note_all(heap: Global, records: &Records) -> Result<Seen, Failure<Refusal>>
+    ensures ok { IfOk result (Noted (records_of records.now.list.items)) }
+    ensures refused { IfRefused result (Wrong (records_of records.now.list.items)) }
 {
     let mut seen = Seen::new(heap);
-    for i in 0..records.len() {
-        let again = note_machine(&mut seen, i as u8, &records[i].doings)?;
-        if let Some(place) = again {
-            return Ok(Noting::Again(place));
-        }
+    for (machine, recorded) in records.list.iter().enumerate() {
+        note_machine(&mut seen, machine as u8, &recorded.doings)?;
     }
-    Ok(Noting::All(seen))
+    Ok(seen)
 }

@@ -1,52 +1,39 @@
 // From files to matched records, or a refusal.
 ghost use Rattle.std.specs.Prelude.{◌≡◌, ℕ, List, IfOk};
+ghost use Rattle.records.specs.Failure.{IfRefused};
 ghost use Rattle.records.specs.Record.{records_of, doings_in};
 ghost use Rattle.records.specs.Reading.{files_of, BeginAlike};
-ghost use Rattle.letters.specs.Recorded.{RecordedAs};
+ghost use Rattle.letters.specs.Recorded.{RecordedAs, RefusedFor};
 
 use crate::matched::Matched;
-use crate::matching::{Matching, match_letters};
-use records::reading::{Files, read_files};
+use crate::matching::match_letters;
+use records::failure::Failure;
+use records::reading::read_files;
 use records::refusal::Refusal;
-use std::alloc::{AllocError, Global};
-
-// What files come to.
-#[derive(Drop)]
-pub enum Recorded {
-    Run(Matched),
-    Refused(Refusal),
-}
+use std::alloc::Global;
 
 impl Matched {
     // How many doings there are in all.
     pub fn doings(&self) -> usize
-        ensures { result ≡ doings_in (records_of self.now.records.items) }
+        ensures { result ≡ doings_in (records_of self.now.records.list.items) }
     {
-        let mut all = 0;
-        for i in 0..self.records.len() {
-            all += self.records[i].doings.len();
-        }
-        all
+        self.records
+            .list
+            .iter()
+            .map(|recorded| recorded.doings.len())
+            .sum()
     }
 }
 
 // What the files recorded, in order of machines, with their letters matched; or why not, by the lowest number. As in reading, the
 // telling beginning of a long file is enough.
-pub fn read_recorded(heap: Global, files: &[Vec<u8>]) -> Result<Recorded, AllocError>
-    ensures { IfOk result (λ x. (whole : List (List ℕ)) → BeginAlike whole (files_of files.now) → RecordedAs whole x) }
+pub fn read_recorded(heap: Global, files: &[Vec<u8>]) -> Result<Matched, Failure<Refusal>>
+    ensures ok { IfOk result (λ matched. (whole : List (List ℕ)) → BeginAlike whole (files_of files.now) → RecordedAs whole matched) }
+    ensures refused { IfRefused result (λ why. (whole : List (List ℕ)) → BeginAlike whole (files_of files.now) → RefusedFor whole why) }
 {
-    let read = read_files(heap, files)?;
-    match read {
-        Files::Fault(place) => Ok(Recorded::Refused(Refusal::Form(place))),
-        Files::Whole(records) => {
-            let matching = match_letters(heap, &records)?;
-            match matching {
-                Matching::All(letters) => Ok(Recorded::Run(Matched { records, letters })),
-                Matching::Again(place) => Ok(Recorded::Refused(Refusal::Again(place))),
-                Matching::Unsent(place) => Ok(Recorded::Refused(Refusal::Unsent(place))),
-            }
-        }
-    }
+    let records = read_files(heap, files)?;
+    let letters = match_letters(heap, &records)?;
+    Ok(Matched { records, letters })
 }
 
 #[cfg(test)]
@@ -54,7 +41,7 @@ mod tests {
     use super::*;
     use records::doing::{Doing, Kind};
     use records::record::Record;
-    use records::writing::{Writing, write_record};
+    use records::writing::write_record;
     use std::test::Fail;
 
     // The file of a machine that does one thing with a letter, its amount being so much after it.
@@ -70,10 +57,9 @@ mod tests {
             amount: 1_000_000,
             doings,
         };
-        let writing = write_record(heap, &recorded, machine)?;
-        match writing {
-            Writing::Whole(bytes) => Ok(bytes),
-            Writing::Beyond(_) => Err("beyond the limits".into()),
+        match write_record(heap, &recorded, machine) {
+            Ok(bytes) => Ok(bytes),
+            Err(_) => Err("beyond the limits, or no memory".into()),
         }
     }
 
@@ -83,8 +69,7 @@ mod tests {
         let mut files = Vec::new(heap);
         files.push(file(heap, 0, Kind::Gets(7), 1_000_000)?)?;
         files.push(file(heap, 1, Kind::Sends(7), 0)?)?;
-        let recorded = read_recorded(heap, &files)?;
-        let Recorded::Run(run) = recorded else {
+        let Ok(run) = read_recorded(heap, &files) else {
             return Err("refused".into());
         };
         assert_eq!(rt; run.doings(), 2);
@@ -102,8 +87,7 @@ mod tests {
         let mut files = Vec::new(heap);
         files.push(file(heap, 0, Kind::Neither, 0)?)?;
         files.push(file(heap, 1, Kind::Gets(7), 0)?)?;
-        let recorded = read_recorded(heap, &files)?;
-        let Recorded::Refused(refusal) = recorded else {
+        let Err(Failure::Refused(refusal)) = read_recorded(heap, &files) else {
             return Err("not refused".into());
         };
         let bytes = refusal.bytes(heap)?;
