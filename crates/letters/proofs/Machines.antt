@@ -8,15 +8,9 @@ use Rattle.records.specs.declared.doing.Doing.{Doing}
 use Rattle.records.specs.declared.record.Record as code
 use Rattle.records.specs.Record.{Record, record_of, records_of, none, machine_of, did_of, doings_in, kind_in, kind_of}
 
--- machine i's doings, as its part of the slice has them
-pub part_is : (rs : List code.Record) (i : ℕ) (d : code.Record) (ds : List Doing) → i < length rs → ds ≡ vec_items (get_or rs i d).doings → (machine_of (records_of rs) i).doings ≡ ds
-part_is rs i d ds lt e = ap (λ (r : Record). r.doings) (get_or-map record_of rs i d none lt) ∙ sym e
-
--- of the program's values: a machine's record, as a loop over them all has it
-pub short_at : (rs vs : List code.Record) (i : ℕ) (r : code.Record) (ds : List Doing) → vs ≡ rs → ((j : ℕ) → did_of (records_of rs) j ≤ 500) → i < length vs → r ≡ get_or vs i r → ds ≡ vec_items r.doings → length ds ≤ 500
-short_at rs vs i r ds e short lt is d =
-    let part : (machine_of (records_of vs) i).doings ≡ ds = part_is vs i r ds lt (d ∙ ap (λ (x : code.Record). vec_items x.doings) is) in
-    omega (arith, short i, ap length part, ap (λ (xs : List code.Record). did_of (records_of xs) i) e)
+-- of the program's values: machine i's record, as a loop over them all has it
+pub record_at : (rs vs : List code.Record) (i : ℕ) (r : code.Record) → vs ≡ rs → i < length vs → r ≡ get_or vs i r → machine_of (records_of rs) i ≡ record_of r
+record_at rs vs i r e lt is = ap (λ (xs : List code.Record). machine_of (records_of xs) i) (sym e) ∙ get_or-map record_of vs i r none lt ∙ ap record_of (sym is)
 
 kind_in_lem : (ds : List Doing) (k : ℕ) (d : Doing) → k < length ds → kind_in ds (suc k) ≡ (get_or ds k d).kind
 kind_in_lem [] k d lt = absurd (omega arith)
@@ -47,7 +41,7 @@ within rs i m some = let h = kind_within (machine_of rs i).doings m some in (mac
 
 -- how many doings there are, machine by machine
 pub did_is : (rs : List code.Record) (i : ℕ) (d : code.Record) → i < length rs → did_of (records_of rs) i ≡ vec_len (get_or rs i d).doings
-did_is rs i d lt = ap length (part_is rs i d (vec_items (get_or rs i d).doings) lt refl) ∙ sym (get_or rs i d).doings.ok.0
+did_is rs i d lt = ap (λ (r : Record). length r.doings) (get_or-map record_of rs i d none lt) ∙ sym (get_or rs i d).doings.ok.0
 
 pub doings_more : (rs : List Record) (i : ℕ) → i < length rs → doings_in (take (i + 1) rs) ≡ doings_in (take i rs) + did_of rs i
 doings_more rs i lt = rw add-one (go rs i lt)

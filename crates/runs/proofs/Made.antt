@@ -1,5 +1,5 @@
 -- The run that records make.
-use Rattle.std.proofs.Common.{◌≡◌, ℕ, zero, suc, ◌+◌, ◌<◌, ◌≤◌, Bool, true, ◌&&◌, List, [], ◌∷◌, ◌++◌, length, get_or, take, Some, None, vec_items, Option, Vec, sym, refl, ap, ◌∙◌, subst, ⊎_elim, add_assoc, arith, length-append}
+use Rattle.std.proofs.Common.{◌≡◌, ℕ, zero, suc, ◌+◌, ◌<◌, ◌≤◌, Bool, true, ◌&&◌, List, [], ◌∷◌, ◌++◌, length, get_or, take, Some, None, vec_items, vec_len, Option, Vec, sym, refl, ap, ◌∙◌, subst, ⊎_elim, add_assoc, arith, length-append}
 use mathlib.Core.List.{Memᴰ}
 use Rattle.std.proofs.lemmas.List.{length-map, with_items_is, take_all, get_or_past, get_or_append_left, get_or-append-add}
 use Rattle.std.proofs.lemmas.Bool.{cases_lt, lt-ltb, le-leb}
@@ -8,10 +8,9 @@ use Rattle.std.specs.declared.alloc.Global.{Global}
 use Rattle.records.specs.declared.doing.Kind.TheVariants.{Sends, Gets}
 use Rattle.records.specs.declared.doing.Doing.{Doing}
 use Rattle.records.specs.declared.place.Place.{Place}
-use Rattle.records.specs.declared.record.Record as given
+use Rattle.records.specs.declared.records.Records as given
 use Rattle.records.specs.Record.{Record, record_of, records_of, none, machine_of, did_of, kind_of, sign_in, amount_in}
 use Rattle.letters.specs.declared.letter.Letter.{Letter}
-use Rattle.letters.specs.Noting.{Few}
 use Rattle.letters.specs.Matching.{LettersOf}
 use Rattle.letters.proofs.Machines.{within}
 use Rattle.runs.specs.declared.counts.Counts.{Counts}
@@ -80,10 +79,19 @@ blank_all [] zero = refl
 blank_all [] (suc p) = refl
 blank_all (r ∷ rs) p = blank_append (states_of r) (all_states rs) (blank_of r) (blank_all rs) p
 
+-- what a run's type says of its fields
+pub record Shapes (count : ℕ) (did starts : Counts) (size : ℕ) (states : List State) : Type 0 where
+  pub some : 1 ≤ count
+  pub most : count ≤ 40
+  pub few : shape.Few count did
+  pub inside : Inside count did starts size
+  pub apart : Apart count did starts
+  pub sent : Sent count did size states
+
 both : (a b c : Bool) → a ≡ true → b ≡ true → c ≡ true → (a && (b && c)) ≡ true
 both a b c e f g = ap (λ (x : Bool). x && (b && c)) e ∙ ap (λ (x : Bool). x && c) f ∙ g
 
-module _ (rs : List Record) (ls : List Letter) (did starts : Counts) (ss : List State) (few : Few rs) (laid : Laid rs (length rs) did starts ss) (of : LettersOf rs ls) where
+module _ (rs : List Record) (ls : List Letter) (did starts : Counts) (ss : List State) (few : length rs ≤ 40) (short : (i : ℕ) → did_of rs i ≤ 500) (laid : Laid rs (length rs) did starts ss) (of : LettersOf rs ls) where
   start_is : (k : ℕ) → k < length rs → get_or starts.of k 0 ≡ length (all_states (take k rs))
   start_is = laid.begins
 
@@ -91,7 +99,7 @@ module _ (rs : List Record) (ls : List Letter) (did starts : Counts) (ss : List 
   all_is = laid.items ∙ ap all_states (take_all (length rs) rs (omega arith))
 
   pub few_is : shape.Few (length rs) did
-  few_is i lt = omega (arith, laid.doings i lt, few.1 i)
+  few_is i lt = omega (arith, laid.doings i lt, short i)
 
   pub inside : Inside (length rs) did starts (length ss)
   inside i lt = omega (arith, grow rs i (length rs) lt lt, laid.doings i lt, start_is i lt, ap length laid.items)
@@ -113,7 +121,7 @@ module _ (rs : List Record) (ls : List Letter) (did starts : Counts) (ss : List 
   pub indices_within : Within (length ss) starts ls
   indices_within k lt =
       let mem = mem_at ls k (record { from = 0; sent = 0; to = 0; got = 0 }) lt in
-      (omega (arith, (ends _ mem).1.0, few.0), all_within _ mem)
+      (omega (arith, (ends _ mem).1.0, few), all_within _ mem)
 
   in_order : InOrder starts ls
   in_order l x ml mx before =
@@ -144,14 +152,16 @@ module _ (rs : List Record) (ls : List Letter) (did starts : Counts) (ss : List 
           subst P x.3 (both _ _ _ (lt-ltb _ _ w.0) (le-leb _ _ w.1) (le-leb _ _ (omega (arith, w.2, laid.doings x.0.from w.0))))
 
   -- all that a run's type says
-  pub shapes : (n size : ℕ) (states : List State) → n ≡ length rs → states ≡ linked starts ls ss → size ≡ length states → 1 ≤ length rs
-      → (1 ≤ n) × ((n ≤ 40) × (shape.Few n did × (Inside n did starts size × (Apart n did starts × (Sent n did size states × Unit {0})))))
+  pub shapes : (n size : ℕ) (states : List State) → n ≡ length rs → states ≡ linked starts ls ss → size ≡ length states → 1 ≤ length rs → Shapes n did starts size states
   shapes n size states n-is states_is size_is some =
-      let P : ℕ → Type 0 = λ k. shape.Few k did × (Inside k did starts (length (linked starts ls ss)) × (Apart k did starts × (Sent k did (length (linked starts ls ss)) (linked starts ls ss) × Unit {0}))) in
-      let Q : List State → Type 0 = λ x. shape.Few n did × (Inside n did starts (length x) × (Apart n did starts × (Sent n did (length x) x × Unit {0}))) in
-      let R : ℕ → Type 0 = λ k. shape.Few n did × (Inside n did starts k × (Apart n did starts × (Sent n did k states × Unit {0}))) in
-      let there : Inside (length rs) did starts (length (linked starts ls ss)) = λ i lt. omega (arith, inside i lt, linked_long starts ls ss) in
-      (omega arith, (omega (arith, few.0), subst R (sym size_is) (subst Q (sym states_is) (subst P (sym n-is) (few_is, (there, (apart, (sent, tt))))))))
+      rw (n-is, size_is, states_is) (record {
+        some = some;
+        most = few;
+        few = few_is;
+        inside = λ i lt. omega (arith, inside i lt, linked_long starts ls ss);
+        apart = apart;
+        sent = sent;
+      })
 
   module _ (r : code.Run) (count_is : r.count ≡ length rs) (did_is : r.did ≡ did) (starts_is : r.starts ≡ starts) (states_is : vec_items r.states ≡ linked starts ls ss) where
     state_is : (i m : ℕ) → state_of r i m ≡ get_or (linked starts ls ss) (index starts i m) still
@@ -193,11 +203,10 @@ module _ (rs : List Record) (ls : List Letter) (did starts : Counts) (ss : List 
         }
 
 -- of the program's values
-pub laid_as : (xs ys : List given.Record) (did starts : Counts) (ss : List State) → xs ≡ ys → Laid (records_of xs) (length xs) did starts ss → Laid (records_of ys) (length (records_of ys)) did starts ss
-laid_as xs ys did starts ss e h =
-    let P : List given.Record → Type 0 = λ zs. Laid (records_of zs) (length zs) did starts ss in
-    let Q : ℕ → Type 0 = λ n. Laid (records_of ys) n did starts ss in
-    subst Q (sym (length-map ys record_of)) (subst P e h)
+pub laid_as : (all : given.Records) (did starts : Counts) (ss : List State) → Laid (records_of (vec_items all.list)) (vec_len all.list) did starts ss → Laid (records_of (vec_items all.list)) (length (records_of (vec_items all.list))) did starts ss
+laid_as all did starts ss h =
+    let Q : ℕ → Type 0 = λ n. Laid (records_of (vec_items all.list)) n did starts ss in
+    subst Q (all.list.ok.0 ∙ sym (length-map (vec_items all.list) record_of)) h
 
 pub within_as : (ls ds : List Letter) (ss xs : List State) (starts : Counts) → ds ≡ ls → xs ≡ ss → Within (length ss) starts ls → Within (length xs) starts ds
 within_as ls ds ss xs starts e f h =

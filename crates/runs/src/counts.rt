@@ -35,10 +35,10 @@ impl Counts {
     {
         let mut of = self.of;
         let mut pairs = 0;
-        for k in 0..count {
+        for (machine, theirs) in other.of[..count].iter().enumerate() {
             pairs += 1;
-            if of[k] < other.of[k] {
-                of[k] = other.of[k];
+            if of[machine] < *theirs {
+                of[machine] = *theirs;
             }
         }
         (Counts { of }, pairs)

@@ -1,7 +1,6 @@
 // The run that matched records make.
-ghost use Rattle.std.specs.Prelude.{◌≡◌, ◌≤◌, ◌++◌, length, IfOk, OnOk};
+ghost use Rattle.std.specs.Prelude.{◌≡◌, ◌≤◌, ◌++◌, length, vec_len, IfOk, OnOk};
 ghost use Rattle.records.specs.Record.{record_of, records_of};
-ghost use Rattle.letters.specs.Noting.{Few};
 ghost use Rattle.letters.specs.Matching.{LettersOf};
 ghost use Rattle.runs.specs.Model.{RunOf};
 ghost use Rattle.runs.specs.Making.{states_after, states_of, Laid, Within, linked};
@@ -14,6 +13,7 @@ use letters::matched::Matched;
 use records::doing::Doing;
 use records::place::Place;
 use records::record::Record;
+use records::records::Records;
 use std::alloc::{AllocError, Global};
 
 // Each machine's states, one machine's behind another's, with no letter's sending yet.
@@ -52,17 +52,16 @@ fn push_states(states: &mut Vec<State>, recorded: &Record) -> Result<(), AllocEr
 }
 
 // Lays all machines' states out.
-fn lay_out(heap: Global, records: &[Record]) -> Result<Layout, AllocError>
-    requires few { Few (records_of records.now) }
-    ensures { IfOk result (λ x. Laid (records_of records.now) (length records.now) x.did x.starts x.states.items) }
+fn lay_out(heap: Global, records: &Records) -> Result<Layout, AllocError>
+    ensures { IfOk result (λ x. Laid (records_of records.now.list.items) (vec_len records.now.list) x.did x.starts x.states.items) }
 {
     let mut did = Counts::none();
     let mut starts = Counts::none();
     let mut states = Vec::new(heap);
-    for i in 0..records.len() {
-        did = did.with(i, records[i].doings.len() as u16);
-        starts = starts.with(i, states.len() as u16);
-        push_states(&mut states, &records[i])?;
+    for (machine, recorded) in records.list.iter().enumerate() {
+        did = did.with(machine, recorded.doings.len() as u16);
+        starts = starts.with(machine, states.len() as u16);
+        push_states(&mut states, recorded)?;
     }
     Ok(Layout {
         did,
@@ -87,19 +86,18 @@ fn link(states: &mut [State], starts: Counts, letters: &[Letter])
 
 // The run that matched records make.
 pub fn make_run(heap: Global, matched: &Matched) -> Result<Run, AllocError>
-    requires some { 1 ≤ length (records_of matched.now.records.items) }
-    requires of { LettersOf (records_of matched.now.records.items) matched.now.letters.items }
-    ensures { IfOk result (RunOf (records_of matched.now.records.items)) }
+    requires some { 1 ≤ length (records_of matched.now.records.list.items) }
+    requires of { LettersOf (records_of matched.now.records.list.items) matched.now.letters.items }
+    ensures { IfOk result (RunOf (records_of matched.now.records.list.items)) }
 {
-    let layout = lay_out(heap, &matched.records)?;
     let Layout {
         did,
         starts,
         mut states,
-    } = layout;
+    } = lay_out(heap, &matched.records)?;
     link(&mut states, starts, &matched.letters);
     Ok(Run {
-        count: matched.records.len(),
+        count: matched.records.list.len(),
         did,
         starts,
         states,

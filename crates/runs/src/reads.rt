@@ -22,7 +22,7 @@ impl Run {
         requires done { doing ≤ slice_index self.now.did.of machine }
         ensures { result ≡ sending_of self.now machine doing }
     {
-        self.states[self.starts.of[machine] as usize + doing as usize].sending
+        self.state(machine, doing).sending
     }
 
     // A machine's sign after so many doings.

@@ -1,7 +1,7 @@
 use Rattle.std.proofs.Common.{◌≤◌, length, vec_items, ap, arith}
 use Rattle.std.proofs.lemmas.List.{length-map}
-use Rattle.records.specs.Record.{records_of, record_of}
-use Rattle.letters.proofs.Machines.{short_at}
+use Rattle.records.specs.Record.{Record, records_of, record_of}
+use Rattle.letters.proofs.Machines.{record_at}
 use Rattle.letters.proofs.Linking.{nothing_yet, matched}
 use Rattle.letters.proofs.matching.match_all.Goals as goal
 
@@ -11,10 +11,8 @@ loop-machine-init c = nothing_yet (records_of (vec_items c.args.records.now.list
 pub match_machine-requires : goal.match_machine-requires
 match_machine-requires c =
     let all = c.args.records.now in
-    record {
-      short = short_at (vec_items all.list) c.deref-recorded-items.result.now c.loop-machine.machine c.recorded-item.result c.deref.result.now
-          c.deref-recorded-items.ensures.value all.short c.loop-machine-test.true c.recorded-item.is c.deref.ensures.value;
-    }
+    let here = record_at (vec_items all.list) c.deref-recorded-items.result.now c.loop-machine.machine c.recorded-item.result c.deref-recorded-items.ensures.value c.loop-machine-test.true c.recorded-item.is in
+    record { short = omega (arith, all.short c.loop-machine.machine, ap (λ (r : Record). length r.doings) here, ap length c.deref.ensures.value) }
 
 pub returns-clause-ok : goal.returns-clause-ok
 returns-clause-ok c =
