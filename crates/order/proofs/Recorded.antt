@@ -9,17 +9,12 @@ use Rattle.records.specs.Reading.{ReadAs}
 use Rattle.letters.specs.declared.matched.Matched.{Matched}
 use Rattle.runs.specs.Run.{Run, Makes}
 use Rattle.runs.specs.Model.{run_of}
-use Rattle.order.specs.declared.asked.Asked.{Asked}
 use Rattle.order.specs.declared.ordered.Ordered.{Ordered}
-use Rattle.order.specs.Asked.{InOrderAs, OrderedAs, RefusedRightly, RecordedRun}
+use Rattle.order.specs.Asked.{InOrderAs, RefusedRightly, RecordedRun}
 use Rattle.order.proofs.OneRun.{before_made}
 
-pub recorded_run : (fs : List (List ℕ)) (m : Matched) (o : Ordered) → InOrderAs fs m o → RecordedRun fs (records_of (vec_items m.records)) (run_of o.run)
+pub recorded_run : (fs : List (List ℕ)) (m : Matched) (o : Ordered) → InOrderAs fs m o → RecordedRun fs (records_of (vec_items m.records.list)) (run_of o.run)
 recorded_run fs m o h = record { read = h.read; once = h.letters.once; sent = h.letters.sent; makes = h.run.makes; sound = h.order.sound }
-
--- as an arm of a match has it
-pub at_arm : (fs : List (List ℕ)) (x y : Asked) → x ≡ y → OrderedAs fs x → OrderedAs fs y
-at_arm fs x y e h = let P : Asked → Type 0 = OrderedAs fs in subst P e h
 
 -- files are one list of records
 again_in : {fs : List (List ℕ)} {rs qs : List Record} → ReadAs fs rs → ReadAs fs qs → (p : Place) → Again qs p → Again rs p

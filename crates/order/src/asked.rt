@@ -1,42 +1,33 @@
 // From files to an ordered run, or a refusal.
 ghost use Rattle.std.specs.Prelude.{ℕ, List, IfOk};
+ghost use Rattle.records.specs.Failure.{IfRefused};
 ghost use Rattle.records.specs.Reading.{files_of, BeginAlike};
-ghost use Rattle.order.specs.Asked.{OrderedAs};
+ghost use Rattle.order.specs.Asked.{InOrderAs, RefusedRightly};
 
 use crate::ordered::Ordered;
-use crate::ordering::{Ordering, order_run};
+use crate::ordering::order_run;
 use letters::matched::Matched;
-use letters::recorded::{Recorded, read_recorded};
+use letters::recorded::read_recorded;
+use records::failure::Failure;
 use records::refusal::Refusal;
-use rings::ring::lowest_ring;
 use runs::making::make_run;
-use std::alloc::{AllocError, Global};
+use std::alloc::Global;
 
-// What files come to: the run that they recorded, with what comes before what in it; or why not.
+// The run that files recorded, with what comes before what in it.
 #[derive(Drop)]
-pub enum Asked {
-    Run { matched: Matched, ordered: Ordered },
-    Refused(Refusal),
+pub struct Asked {
+    pub matched: Matched,
+    pub ordered: Ordered,
 }
 
 // The run that the files recorded, its doings ordered; or why not, by the lowest number. The telling beginning of a long file is
 // enough.
-pub fn order_files(heap: Global, files: &[Vec<u8>]) -> Result<Asked, AllocError>
-    ensures { IfOk result (λ x. (whole : List (List ℕ)) → BeginAlike whole (files_of files.now) → OrderedAs whole x) }
+pub fn order_files(heap: Global, files: &[Vec<u8>]) -> Result<Asked, Failure<Refusal>>
+    ensures ok { IfOk result (λ asked. (whole : List (List ℕ)) → BeginAlike whole (files_of files.now) → InOrderAs whole asked.matched asked.ordered) }
+    ensures refused { IfRefused result (λ why. (whole : List (List ℕ)) → BeginAlike whole (files_of files.now) → RefusedRightly whole why) }
 {
-    let recorded = read_recorded(heap, files)?;
-    match recorded {
-        Recorded::Refused(refusal) => Ok(Asked::Refused(refusal)),
-        Recorded::Run(matched) => {
-            let run = make_run(heap, &matched)?;
-            let ordering = order_run(heap, run)?;
-            match ordering {
-                Ordering::All(ordered) => Ok(Asked::Run { matched, ordered }),
-                Ordering::Stuck { run, .. } => {
-                    let ring = lowest_ring(heap, &run)?;
-                    Ok(Asked::Refused(Refusal::Ring(ring.unwrap())))
-                }
-            }
-        }
-    }
+    let matched = read_recorded(heap, files)?;
+    let run = make_run(heap, &matched)?;
+    let ordered = order_run(heap, run)?;
+    Ok(Asked { matched, ordered })
 }

@@ -1,37 +1,38 @@
-// From a run to its vectors, or to where it is stuck.
-ghost use Rattle.std.specs.Prelude.{IfOk};
-ghost use Rattle.order.specs.Ordering.{Orders};
+// From a run to its vectors, or to a ring that shows that there are none.
+ghost use Rattle.std.specs.Prelude.{◌≡◌, IfOk};
+ghost use Rattle.records.specs.Failure.{IfRefused};
+ghost use Rattle.records.specs.Refusal.{IsRing};
+ghost use Rattle.runs.specs.Model.{run_of};
+ghost use Rattle.rings.specs.Ring.{LowestRing};
+ghost use Rattle.order.specs.Ordering.{InOrder, ComesBeforeItself};
 
 use crate::ordered::Ordered;
 use crate::vectors::{behind, fill};
+use records::failure::Failure;
+use records::refusal::Refusal;
+use rings::ring::lowest_ring;
 use runs::counts::Counts;
 use runs::run::Run;
-use std::alloc::{AllocError, Global};
-
-// What an ordering comes to: all doings are ordered, or some come before themselves, none of which is behind the cut.
-#[derive(Drop)]
-pub(crate) enum Ordering {
-    All(Ordered),
-    Stuck { run: Run, cut: Counts },
-}
+use std::alloc::Global;
 
 // The vectors of a run.
-pub(crate) fn order_run(heap: Global, run: Run) -> Result<Ordering, AllocError>
-    ensures { IfOk result (Orders run) }
+pub(crate) fn order_run(heap: Global, run: Run) -> Result<Ordered, Failure<Refusal>>
+    ensures ok { IfOk result (λ ordered. (ordered.run ≡ run) × InOrder ordered) }
+    ensures refused { IfRefused result (IsRing (λ ring. ComesBeforeItself (run_of run) × LowestRing (run_of run) ring)) }
 {
     let mut rows = vec![in heap; Counts::none(); run.states.len()]?;
     let mut turns = Vec::new(heap);
     let progress = fill(&run, &mut rows, &mut turns)?;
     match behind(&run, progress.cut) {
-        Some(_) => Ok(Ordering::Stuck {
-            run,
-            cut: progress.cut,
-        }),
-        None => Ok(Ordering::All(Ordered {
+        Some(_) => {
+            let ring = lowest_ring(heap, &run)?;
+            Err(Failure::Refused(Refusal::Ring(ring.unwrap())))
+        }
+        None => Ok(Ordered {
             run,
             turns,
             rows,
             pairs: progress.pairs,
-        })),
+        }),
     }
 }

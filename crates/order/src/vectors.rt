@@ -56,16 +56,12 @@ fn step(run: &Run, rows: &mut [Counts], so_far: Progress, machine: usize) -> Opt
     ensures { MatchOption result ((rows.new ≡ rows.old) × Waits (run_of run.now) (sending_of run.now) (counts_of so_far.cut) machine) (Stepped run.now rows.new so_far.cut machine) }
 {
     let done = so_far.cut.of[machine];
-    let Some(next) = run.next(machine, done) else {
-        return None;
-    };
-    let Some(found) = row_of(run, rows, so_far.cut, machine, next) else {
-        return None;
-    };
-    rows[run.starts.of[machine] as usize + next as usize] = found.0;
+    let next = run.next(machine, done)?;
+    let (row, pairs) = row_of(run, rows, so_far.cut, machine, next)?;
+    rows[run.starts.of[machine] as usize + next as usize] = row;
     Some(Progress {
         cut: so_far.cut.with(machine, next),
-        pairs: so_far.pairs + found.1,
+        pairs: so_far.pairs + pairs,
     })
 }
 
@@ -100,10 +96,9 @@ pub(crate) fn fill(
 pub(crate) fn behind(run: &Run, cut: Counts) -> Option<usize>
     ensures { MatchOption result ((k : ℕ) → k < run.now.count → counts_of run.now.did k ≤ counts_of cut k) (λ k. (k < run.now.count) × (counts_of cut k < counts_of run.now.did k)) }
 {
-    for machine in 0..run.count {
-        if cut.of[machine] < run.did.of[machine] {
-            return Some(machine);
-        }
-    }
-    None
+    cut.of
+        .iter()
+        .zip(&run.did.of)
+        .take(run.count)
+        .position(|(done, did)| done < did)
 }

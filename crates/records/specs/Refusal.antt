@@ -76,6 +76,13 @@ IsForm P (why.Again p) = ⊥
 IsForm P (why.Unsent p) = ⊥
 IsForm P (why.Ring v) = ⊥
 
+-- or this of the ring
+abbrev pub IsRing : (List Place → Type 0) → Refusal → Type 0
+IsRing P (why.Form p) = ⊥
+IsRing P (why.Again p) = ⊥
+IsRing P (why.Unsent p) = ⊥
+IsRing P (why.Ring v) = P (vec_items v)
+
 -- 2. The doing sends what an earlier one sent, or gets what an earlier one got.
 pub record Again (rs : List Record) (p : Place) : Type 0 where
   pub first : Place

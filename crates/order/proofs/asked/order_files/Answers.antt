@@ -1,25 +1,24 @@
 use Rattle.std.proofs.Common.{refl}
 use Rattle.records.specs.Reading.{files_of}
-use Rattle.order.proofs.Rightly.{at_arm, refused, in_order, some_ring, has_ring}
+use Rattle.records.proofs.HandedOn.{handed_on}
+use Rattle.order.proofs.Rightly.{refused, in_order, ringed}
 use Rattle.order.proofs.asked.order_files.Goals as goal
 
-pub returns-in-Refused : goal.returns-in-Refused
-returns-in-Refused c = λ whole same. refused whole c.in-Refused.refusal (at_arm whole _ _ c.in-Refused.is (c.in_ok-recorded.ensures whole same))
+pub returns-in_err-matched-clause-refused : goal.returns-in_err-matched-clause-refused
+returns-in_err-matched-clause-refused c =
+    handed_on c.from_residual.result c.in_err-matched.field-0.0 _ _ c.from_residual.ensures.1 (λ why h whole same. refused whole why (h whole same)) c.in_err-matched.ensures.refused
 
 pub make_run-requires : goal.make_run-requires
 make_run-requires c =
-    let h = at_arm (files_of c.args.files.now) _ _ c.in-Run.is (c.in_ok-recorded.ensures (files_of c.args.files.now) refl) in
+    let h = c.in_ok-matched.ensures.ok (files_of c.args.files.now) refl in
     record { some = h.0.some; of = h.1 }
 
-pub returns-in-All : goal.returns-in-All
-returns-in-All c = λ whole same.
-    in_order whole c.in-Run.matched c.in_ok-run-in-Run.run' c.in_ok-ordering-in-Run.ordering c.in-All.ordered (at_arm whole _ _ c.in-Run.is (c.in_ok-recorded.ensures whole same)) c.in_ok-run-in-Run.ensures
-    c.in-All.is c.in_ok-ordering-in-Run.ensures
+pub returns-in_err-ordered-clause-refused : goal.returns-in_err-ordered-clause-refused
+returns-in_err-ordered-clause-refused c =
+    handed_on c.from_residual-in_err-ordered.result c.in_err-ordered.field-0.0 _ _ c.from_residual-in_err-ordered.ensures.1
+    (λ why ring whole same. ringed whole c.in_ok-matched.matched c.in_ok-run.run' (c.in_ok-matched.ensures.ok whole same) c.in_ok-run.ensures why ring)
+    c.in_err-ordered.ensures.refused
 
-pub unwrap-requires : goal.unwrap-requires
-unwrap-requires c = some_ring c.in_ok-run-in-Run.run' c.in-Stuck.run' c.in-Stuck.cut c.in_ok-ordering-in-Run.ordering c.in_ok-ring-in-Stuck.ring c.in-Stuck.is c.in_ok-ordering-in-Run.ensures c.in_ok-ring-in-Stuck.ensures
-
-pub returns-in_ok-ring-in-Stuck : goal.returns-in_ok-ring-in-Stuck
-returns-in_ok-ring-in-Stuck c = λ whole same.
-    has_ring whole c.in-Run.matched c.in_ok-run-in-Run.run' c.in-Stuck.run' c.in-Stuck.cut c.in_ok-ordering-in-Run.ordering c.in_ok-ring-in-Stuck.ring c.unwrap.result (at_arm whole _ _ c.in-Run.is (c.in_ok-recorded.ensures whole same))
-    c.in_ok-run-in-Run.ensures c.in-Stuck.is c.in_ok-ordering-in-Run.ensures c.in_ok-ring-in-Stuck.ensures c.unwrap.ensures
+pub returns-clause-ok : goal.returns-clause-ok
+returns-clause-ok c = λ whole same.
+    in_order whole c.in_ok-matched.matched c.in_ok-run.run' c.in_ok-ordered.ordered (c.in_ok-matched.ensures.ok whole same) c.in_ok-run.ensures c.in_ok-ordered.ensures.ok

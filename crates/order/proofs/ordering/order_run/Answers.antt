@@ -9,6 +9,7 @@ use Rattle.runs.proofs.Linked.{linked, in_same}
 use Rattle.order.specs.Vectors.{VectorsOf}
 use Rattle.order.specs.Rows.{vectors_in, none}
 use Rattle.order.proofs.OneMore.{done_all}
+use Rattle.order.proofs.Rightly.{some_ring, ring_of}
 use Rattle.order.proofs.Stuck.{ring}
 use Rattle.order.proofs.ordering.order_run.Goals as goal
 
@@ -25,14 +26,20 @@ fill-requires c =
           ap (λ (rows : List Counts). counts_of (get_or rows p none) i) items ∙ ap (λ (w : Counts). counts_of w i) (get_or-replicate c.len.result p c.none.result none p<) ∙ c.none.ensures i;
     }
 
-pub returns-in-Some : goal.returns-in-Some
-returns-in-Some c =
+pub unwrap-requires : goal.unwrap-requires
+unwrap-requires c =
     let late = c.in-Some.ensures in
-    let filled = c.in_ok-progress.ensures in
-    (refl, record { ring = ring (run_of c.args.run) (sending_of c.args.run) (counts_of c.in_ok-progress.progress.cut) (linked c.args.run) filled.waits c.in-Some.field-0 late.0 late.1; beyond = filled.done.no_ring })
+    some_ring (run_of c.args.run) c.in_ok-ring-in-Some.ring
+    (ring (run_of c.args.run) (sending_of c.args.run) (counts_of c.in_ok-progress.progress.cut) (linked c.args.run) c.in_ok-progress.ensures.waits c.in-Some.field-0 late.0 late.1) c.in_ok-ring-in-Some.ensures
 
-pub returns-in-None : goal.returns-in-None
-returns-in-None c =
+pub returns-in_ok-ring-in-Some-clause-refused : goal.returns-in_ok-ring-in-Some-clause-refused
+returns-in_ok-ring-in-Some-clause-refused c =
+    let late = c.in-Some.ensures in
+    let found = ring_of (run_of c.args.run) c.in_ok-ring-in-Some.ring c.unwrap.result c.unwrap.ensures c.in_ok-ring-in-Some.ensures in
+    (ring (run_of c.args.run) (sending_of c.args.run) (counts_of c.in_ok-progress.progress.cut) (linked c.args.run) c.in_ok-progress.ensures.waits c.in-Some.field-0 late.0 late.1, found)
+
+pub returns-in-None-clause-ok : goal.returns-in-None-clause-ok
+returns-in-None-clause-ok c =
     let run = c.args.run in
     let cut = counts_of c.in_ok-progress.progress.cut in
     let filled = c.in_ok-progress.ensures in

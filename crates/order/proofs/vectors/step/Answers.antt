@@ -13,8 +13,8 @@ use Rattle.order.proofs.vectors.step.Goals as goal
 pub overflow_add-result : goal.overflow_add-result
 overflow_add-result c =
     let run = c.args.run.now in
-    let told = c.in-Some-row_of.ensures in
-    record { fits = omega (arith, joined_few run (counts_of c.args.so_far.cut) c.args.so_far.pairs c.in-Some-row_of.found.1 c.requires.done.moment c.requires.joined (omega (arith, told.2, for_few run.count (sending_of run c.args.machine c.in-Some.next), run.most))) }
+    let told = c.in_ok-row.ensures in
+    record { fits = omega (arith, joined_few run (counts_of c.args.so_far.cut) c.args.so_far.pairs c.in_ok-row.pairs c.requires.done.moment c.requires.joined (omega (arith, told.2, for_few run.count (sending_of run c.args.machine c.in_ok-next.next), run.most))) }
 
 pub returns : goal.returns
 returns c =
@@ -22,10 +22,10 @@ returns c =
     let rows = c.args.rows.now in
     let cut = c.args.so_far.cut in
     let j = c.args.machine in
-    let m = c.in-Some.next in
-    let row = c.in-Some-row_of.found.0 in
-    let told = c.in-Some-row_of.ensures in
-    let next = c.in-Some.ensures in
+    let m = c.in_ok-next.next in
+    let row = c.in_ok-row.row in
+    let told = c.in_ok-row.ensures in
+    let next = c.in_ok-next.ensures in
     let p = index run.starts j m in
     let p< : p < length rows = omega (arith, run.inside j c.requires.inside, c.requires.long, next.1) in
     let at : get_or (set rows p row) p none ≡ row = get_or-set_same rows p row none p< in
@@ -43,5 +43,5 @@ returns c =
           (counts_of c.with.result) here rest;
       one = here ∙ next.0;
       others = rest;
-      joined = joined_more run (counts_of cut) (counts_of c.with.result) j m c.args.so_far.pairs c.in-Some-row_of.found.1 c.requires.inside (here ∙ next.0) rest here c.requires.joined told.2;
+      joined = joined_more run (counts_of cut) (counts_of c.with.result) j m c.args.so_far.pairs c.in_ok-row.pairs c.requires.inside (here ∙ next.0) rest here c.requires.joined told.2;
     }
