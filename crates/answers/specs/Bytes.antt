@@ -2,10 +2,9 @@
 -- Assumes nothing.
 use Rattle.std.specs.Prelude.{ℕ, ◌/◌, ◌%◌, ◌^◌, List, [], ◌∷◌, ◌++◌}
 use Rattle.records.specs.Record.{bytes2, bytes4}
-use Rattle.records.specs.Refusal.{refusal_bytes}
 use Rattle.moments.specs.Stretches.{Stretch}
 use Rattle.answers.specs.Answer as said
-use Rattle.answers.specs.Answer.{Question, Answer, Counted, Reply, may_yes, may_no, must_yes, must_no, answered, refused}
+use Rattle.answers.specs.Answer.{Question, Answer, Counted, may_yes, may_no, must_yes, must_no}
 
 abbrev pub question_number : Question → ℕ
 question_number said.Question.may = 1
@@ -37,10 +36,6 @@ answer_bytes (must_no way) = question_number said.Question.must ∷ (0 ∷ way)
 answer_bytes (said.Answer.least sum cut flows) = question_number said.Question.least ∷ (1 ∷ (bytes8 sum ++ (each2 cut ++ each8 flows)))
 answer_bytes (said.Answer.most sum cut flows) = question_number said.Question.most ∷ (1 ∷ (bytes8 sum ++ (each2 cut ++ each8 flows)))
 
--- 77, the answer, and behind it the counts of steps; or the refusal's
+-- 77, the answer, and behind it the counts of steps
 abbrev pub counted_bytes : Counted → List ℕ
 counted_bytes a = 77 ∷ (answer_bytes a.answer ++ (bytes8 a.pairs ++ bytes8 a.ways))
-
-abbrev pub reply_bytes : Reply → List ℕ
-reply_bytes (answered a) = counted_bytes a
-reply_bytes (refused n) = refusal_bytes n

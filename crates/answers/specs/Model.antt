@@ -6,8 +6,6 @@ use Rattle.answers.specs.declared.question.Question.TheVariants as questions
 use Rattle.answers.specs.declared.answer.Answer as code_answer
 use Rattle.answers.specs.declared.answer.Answer.TheVariants as answers
 use Rattle.answers.specs.declared.answer.Counted as code_counted
-use Rattle.answers.specs.declared.reply.Reply as code_reply
-use Rattle.answers.specs.declared.reply.Reply.TheVariants as replies
 use Rattle.answers.specs.Answer as said
 use Rattle.answers.specs.Bytes.{answer_bytes, counted_bytes}
 
@@ -20,10 +18,6 @@ answer_of answers.MayNo = said.Answer.may_no
 
 abbrev pub counted_of : code_counted.Counted → said.Counted
 counted_of a = record { answer = answer_of a.answer; pairs = a.pairs; ways = a.ways }
-
-abbrev pub reply_of : code_reply.Reply → said.Reply
-reply_of (replies.Answered a) = said.Reply.answered (counted_of a)
-reply_of (replies.Refused n) = said.Reply.refused n
 
 abbrev pub ToMay : said.Answer → Type 0
 ToMay (said.Answer.may_yes cut) = Unit {0}

@@ -4,6 +4,5 @@
 pub mod answer;
 pub mod question;
 pub mod reading;
-pub mod reply;
 pub mod words;
 pub mod writing;

@@ -1,11 +1,10 @@
 // The bytes of a reply.
 ghost use Rattle.std.specs.Prelude.{◌≡◌, ◌++◌, IfOk, OnOk};
 ghost use Rattle.records.specs.Record.{bytes2};
-ghost use Rattle.answers.specs.Bytes.{bytes8, each2, answer_bytes, counted_bytes, reply_bytes};
-ghost use Rattle.answers.specs.Model.{answer_of, counted_of, reply_of};
+ghost use Rattle.answers.specs.Bytes.{bytes8, each2, answer_bytes, counted_bytes};
+ghost use Rattle.answers.specs.Model.{answer_of, counted_of};
 
 use crate::answer::{Answer, Counted};
-use crate::reply::Reply;
 use std::alloc::{AllocError, Global};
 
 fn count_bytes(count: u16) -> [u8; 2]
@@ -45,7 +44,7 @@ fn push_answer(out: &mut Vec<u8>, answer: &Answer) -> Result<(), AllocError>
 
 impl Counted {
     // 77, the answer, and the counts of steps.
-    fn bytes(&self, heap: Global) -> Result<Vec<u8>, AllocError>
+    pub fn bytes(&self, heap: Global) -> Result<Vec<u8>, AllocError>
         ensures { IfOk result (λ x. x.items ≡ counted_bytes (counted_of self.now)) }
     {
         let mut bytes = Vec::new(heap);
@@ -54,22 +53,5 @@ impl Counted {
         bytes.extend_from_slice(&number_bytes(self.pairs))?;
         bytes.extend_from_slice(&number_bytes(self.ways))?;
         Ok(bytes)
-    }
-}
-
-impl Reply {
-    pub fn bytes(&self, heap: Global) -> Result<Vec<u8>, AllocError>
-        ensures { IfOk result (λ x. x.items ≡ reply_bytes (reply_of self.now)) }
-    {
-        match self {
-            Reply::Answered(counted) => {
-                let bytes = counted.bytes(heap)?;
-                Ok(bytes)
-            }
-            Reply::Refused(refusal) => {
-                let bytes = refusal.bytes(heap)?;
-                Ok(bytes)
-            }
-        }
     }
 }

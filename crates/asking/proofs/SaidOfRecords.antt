@@ -53,7 +53,7 @@ few_enough n d p le = let more : n * d ≤ (4 * n) * (d + n) = mul-le-mul (omega
 
 pub may_right : (fs : List (List ℕ)) (m : Matched) (o : Ordered) (a : Counted) → InOrderAs fs m o → MayDecided (run_of o.run) (signs_of o.run) a → Right fs may (answered a)
 may_right fs m o a h told =
-    let rs = records_of (vec_items m.records) in
+    let rs = records_of (vec_items m.records.list) in
     let r = run_of o.run in
     let made = h.run in
     let n = made.makes.count in
@@ -91,9 +91,9 @@ took_same r s t same a h =
     let there = searched_same r s t h.vectors h.told same h.searched in
     record { vectors = h.vectors; told = h.told; joins = h.joins; cut = h.cut; searched = there.1; ends = ends_same r s t h.vectors h.told same h.cut there.0 a.answer h.ends; pairs = h.pairs; ways = h.ways }
 
-pub may_steps : (fs : List (List ℕ)) (m : Matched) (o : Ordered) (a : Counted) → InOrderAs fs m o → MayDecided (run_of o.run) (signs_of o.run) a → StepsTaken fs (answered a)
+pub may_steps : (fs : List (List ℕ)) (m : Matched) (o : Ordered) (a : Counted) → InOrderAs fs m o → MayDecided (run_of o.run) (signs_of o.run) a → StepsTaken fs a
 may_steps fs m o a h told =
-    let rs = records_of (vec_items m.records) in
+    let rs = records_of (vec_items m.records.list) in
     (rs, run_of o.run, recorded_run fs m o h, took_same (run_of o.run) (signs_of o.run) (sign_of rs) (signs_agree rs o.run h.run) a told.took)
 
 -- the questions that are answered so far

@@ -9,7 +9,7 @@ use Rattle.order.specs.Asked.{RecordedRun}
 use Rattle.moments.specs.Cuts.{Alike}
 use Rattle.moments.specs.Signs.{Says}
 use Rattle.may_must.specs.MaySearch.{LowestNo, Searched}
-use Rattle.answers.specs.Answer.{Answer, may_yes, may_no, must_yes, must_no, Counted, Reply, answered, refused}
+use Rattle.answers.specs.Answer.{Answer, may_yes, may_no, must_yes, must_no, Counted}
 use Rattle.answers.specs.Answer as said
 use Rattle.asking.specs.Shown.{cut_of}
 
@@ -34,6 +34,5 @@ pub record MayTook (r : Run) (s : Says) (a : Counted) : Type 0 where
   pub ways : a.ways ≡ 0
 
 -- the counts that come with an answer are what was done
-abbrev pub StepsTaken : List (List ℕ) → Reply → Type 0
-StepsTaken files (answered a) = (rs : List Record) × (r : Run) × RecordedRun files rs r × MayTook r (sign_of rs) a
-StepsTaken files (refused why) = Unit {0}
+abbrev pub StepsTaken : List (List ℕ) → Counted → Type 0
+StepsTaken files a = (rs : List Record) × (r : Run) × RecordedRun files rs r × MayTook r (sign_of rs) a

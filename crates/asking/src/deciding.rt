@@ -16,11 +16,7 @@ fn listed(heap: Global, machines: usize, counts: Counts) -> Result<Vec<u16>, All
     requires few { machines ≤ 40 }
     ensures { IfOk result (λ v. (vec_len v ≡ machines) × ((k : ℕ) → k < machines → slice_index v.items k ≡ counts_of counts k)) }
 {
-    let mut list = Vec::new(heap);
-    for machine in 0..machines {
-        list.push(counts.of[machine])?;
-    }
-    Ok(list)
+    counts.of[..machines].to_vec(heap)
 }
 
 pub(crate) fn decide_may(heap: Global, ordered: &Ordered) -> Result<Counted, AllocError>
