@@ -62,7 +62,7 @@ module _ (rs : List Record) (r : Run) (s : Says) (same : Agree r s (sign_of rs))
 
 pub may_judged : (fs : List (List ℕ)) (m : Matched) (o : Ordered) (bytes : List ℕ) (v : Verdict) → InOrderAs fs m o → MayJudged (run_of o.run) (signs_of o.run) bytes v → Judged fs may bytes v
 may_judged fs m o bytes v h told =
-    let rs = records_of (vec_items m.records) in
+    let rs = records_of (vec_items m.records.list) in
     judged rs (run_of o.run) (signs_of o.run) (signs_agree rs o.run h.run) fs bytes v (recorded_run fs m o h) told
 
 -- the questions that are judged so far

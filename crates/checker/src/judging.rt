@@ -7,7 +7,7 @@ ghost use Rattle.checker.specs.Verdict.{Judged, OneVerdict};
 use crate::looking::look;
 use crate::verdict::Verdict;
 use answers::question::Question;
-use order::asked::{Asked, order_files};
+use order::asked::order_files;
 use std::alloc::{AllocError, Global};
 
 // The verdict on an answer's bytes, to a question on files of records. The telling beginning of a long file is enough.
@@ -20,14 +20,10 @@ pub fn judge(
     ensures judged { IfOk result (λ x. (whole : List (List ℕ)) → BeginAlike whole (files_of files.now) → Judged whole (question_of question) bytes.now x) }
     ensures one { OneVerdict }
 {
-    let asked = order_files(heap, files)?;
-    match asked {
-        Asked::Refused(refusal) => Ok(Verdict::Refused(refusal)),
-        Asked::Run { ordered, .. } => match question {
-            Question::May => {
-                let verdict = look(heap, &ordered, bytes)?;
-                Ok(verdict)
-            }
+    match order_files(heap, files) {
+        Err(failure) => Ok(Verdict::Refused(failure.refused()?)),
+        Ok(asked) => match question {
+            Question::May => look(heap, &asked.ordered, bytes),
         },
     }
 }

@@ -1,5 +1,5 @@
 // Looks at an answer to may beside the run.
-ghost use Rattle.std.specs.Prelude.{◌≡◌, ℕ, ◌<◌, ◌≤◌, length, IfOk, Decides, slice_index};
+ghost use Rattle.std.specs.Prelude.{◌≡◌, ℕ, ◌<◌, ◌≤◌, ◌↔◌, length, IfOk, IsTrue, slice_index};
 ghost use Rattle.runs.specs.Model.{run_of, signs_of, counts_of};
 ghost use Rattle.order.specs.Ordering.{InOrder};
 ghost use Rattle.answers.specs.Model.{answer_of};
@@ -17,35 +17,22 @@ use std::alloc::{AllocError, Global};
 
 // Has a cut a count for each machine, and no count more doings than there are.
 fn cut_fits(run: &Run, cut: &[u16]) -> bool
-    ensures { Decides result (CutFits (run_of run.now) cut.now) }
+    ensures { IsTrue result ↔ CutFits (run_of run.now) cut.now }
 {
-    if cut.len() != run.count {
-        return false;
-    }
-    for machine in 0..run.count {
-        if run.did.of[machine] < cut[machine] {
-            return false;
-        }
-    }
-    true
+    cut.len() == run.count && cut.iter().zip(&run.did.of).all(|(done, did)| done <= did)
 }
 
 // Is a cut that of the counts.
 fn is_cut(counts: Counts, cut: &[u16]) -> bool
     requires few { length cut.now ≤ 40 }
-    ensures { Decides result ((k : ℕ) → k < length cut.now → counts_of counts k ≡ slice_index cut.now k) }
+    ensures { IsTrue result ↔ ((k : ℕ) → k < length cut.now → counts_of counts k ≡ slice_index cut.now k) }
 {
-    for machine in 0..cut.len() {
-        if counts.of[machine] != cut[machine] {
-            return false;
-        }
-    }
-    true
+    &counts.of[..cut.len()] == cut
 }
 
 // Has an answer numbers that the run has.
 fn fits(run: &Run, answer: &Answer) -> bool
-    ensures { Decides result (MayFits (run_of run.now) (answer_of answer.now)) }
+    ensures { IsTrue result ↔ MayFits (run_of run.now) (answer_of answer.now) }
 {
     match answer {
         Answer::MayYes(cut) => cut_fits(run, cut),
@@ -57,16 +44,11 @@ fn fits(run: &Run, answer: &Answer) -> bool
 fn holds(ordered: &Ordered, answer: &Answer) -> bool
     requires order { InOrder ordered.now }
     requires form { MayFits (run_of ordered.now.run) (answer_of answer.now) }
-    ensures { Decides result (MayHolds (run_of ordered.now.run) (signs_of ordered.now.run) (answer_of answer.now)) }
+    ensures { IsTrue result ↔ MayHolds (run_of ordered.now.run) (signs_of ordered.now.run) (answer_of answer.now) }
 {
     let first = first_moment(ordered).first;
     match answer {
-        Answer::MayYes(cut) => {
-            let Some(counts) = first else {
-                return false;
-            };
-            is_cut(counts, cut)
-        }
+        Answer::MayYes(cut) => first.is_some_and(|counts| is_cut(counts, cut)),
         Answer::MayNo => first.is_none(),
     }
 }
@@ -76,8 +58,7 @@ pub(crate) fn look(heap: Global, ordered: &Ordered, bytes: &[u8]) -> Result<Verd
     requires order { InOrder ordered.now }
     ensures { IfOk result (MayJudged (run_of ordered.now.run) (signs_of ordered.now.run) bytes.now) }
 {
-    let read = read_answer(heap, bytes)?;
-    let Some(counted) = read else {
+    let Some(counted) = read_answer(heap, bytes)? else {
         return Ok(Verdict::NotItsForm);
     };
     if !fits(&ordered.run, &counted.answer) {

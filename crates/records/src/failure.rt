@@ -1,4 +1,6 @@
 // Why a call gave nothing.
+ghost use Rattle.std.specs.Prelude.{◌≡◌, IfOk};
+ghost use Rattle.records.specs.declared.failure.Failure.TheVariants.{Refused};
 ghost use Rattle.records.specs.Failure.{IsNoMemory};
 
 use std::alloc::{AllocError, AllocFailed};
@@ -8,6 +10,18 @@ use std::alloc::{AllocError, AllocFailed};
 pub enum Failure<E> {
     Refused(E),
     NoMemory(AllocError),
+}
+
+impl<E> Failure<E> {
+    // What is refused, unless memory ran out.
+    pub fn refused(self) -> Result<E, AllocError>
+        ensures { IfOk result (λ why. self ≡ Refused why) }
+    {
+        match self {
+            Failure::Refused(why) => Ok(why),
+            Failure::NoMemory(error) => Err(error),
+        }
+    }
 }
 
 impl<E> From<AllocError> for Failure<E> {

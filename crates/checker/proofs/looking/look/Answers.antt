@@ -11,7 +11,7 @@ use Rattle.checker.proofs.looking.look.Goals.{After-holds}
 in_form : (c : After-holds) → IsMay (run_of c.args.ordered.now.run) c.args.bytes.now (counted_of c.in-Some.counted)
 in_form c =
     let P : Option Counted → Type 0 = AnswerRead c.args.bytes.now in
-    let read = subst P c.in-Some.is c.in_ok-read.ensures in
+    let read = subst P c.in-Some.is c.in_ok-counted.ensures in
     record { written = read.0; form = c.fits.ensures.0 c.if-not-fits.false; pairs = read.2; ways = read.3 }
 
 pub returns-then-holds : goal.returns-then-holds

@@ -1,6 +1,0 @@
-use Rattle.std.proofs.Common.{ℕ, ◌<◌, ◌≤◌, get_or}
-use Rattle.runs.specs.Model.{counts_of}
-use Rattle.checker.proofs.looking.cut_fits.Given as goal
-
-abbrev pub invariant-loop-machine : goal.invariant-loop-machine
-invariant-loop-machine l = (k : ℕ) → k < l.machine → get_or l.cut k 0 ≤ counts_of l.run.did k
