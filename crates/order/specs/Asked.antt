@@ -13,6 +13,7 @@ use Rattle.letters.specs.Recorded.{RefusedFor}
 use Rattle.runs.specs.Run.{Run, Sound, Makes}
 use Rattle.runs.specs.Model.{RunOf}
 use Rattle.rings.specs.Ring.{LowestRing}
+use Rattle.order.specs.declared.asked.Asked.{Asked}
 use Rattle.order.specs.declared.ordered.Ordered.{Ordered}
 use Rattle.order.specs.Ordering.{InOrder, ComesBeforeItself}
 
@@ -39,6 +40,9 @@ pub record InOrderAs (fs : List (List ℕ)) (m : Matched) (o : Ordered) : Type 0
   pub letters : LettersOf (records_of (vec_items m.records.list)) (vec_items m.letters)
   pub run : RunOf (records_of (vec_items m.records.list)) o.run
   pub order : InOrder o
+
+abbrev pub OrderedAs : List (List ℕ) → Asked → Type 0
+OrderedAs fs a = InOrderAs fs a.matched a.ordered
 
 -- The files are these records; nothing is sent or got twice in them, nor got and never sent; and they make this run, in which nothing comes before itself.
 pub record RecordedRun (fs : List (List ℕ)) (rs : List Record) (r : Run) : Type 0 where

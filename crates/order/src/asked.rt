@@ -2,7 +2,7 @@
 ghost use Rattle.std.specs.Prelude.{ℕ, List, IfOk};
 ghost use Rattle.records.specs.Failure.{IfRefused};
 ghost use Rattle.records.specs.Reading.{files_of, BeginAlike};
-ghost use Rattle.order.specs.Asked.{InOrderAs, RefusedRightly};
+ghost use Rattle.order.specs.Asked.{OrderedAs, RefusedRightly};
 
 use crate::ordered::Ordered;
 use crate::ordering::order_run;
@@ -23,7 +23,7 @@ pub struct Asked {
 // The run that the files recorded, its doings ordered; or why not, by the lowest number. The telling beginning of a long file is
 // enough.
 pub fn order_files(heap: Global, files: &[Vec<u8>]) -> Result<Asked, Failure<Refusal>>
-    ensures ok { IfOk result (λ asked. (whole : List (List ℕ)) → BeginAlike whole (files_of files.now) → InOrderAs whole asked.matched asked.ordered) }
+    ensures ok { IfOk result (λ asked. (whole : List (List ℕ)) → BeginAlike whole (files_of files.now) → OrderedAs whole asked) }
     ensures refused { IfRefused result (λ why. (whole : List (List ℕ)) → BeginAlike whole (files_of files.now) → RefusedRightly whole why) }
 {
     let matched = read_recorded(heap, files)?;
