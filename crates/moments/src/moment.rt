@@ -15,10 +15,8 @@ pub(crate) fn is_ready(run: &Run, cut: Counts, machine: usize, doing: u16) -> bo
     requires done { doing ≤ counts_of run.now.did machine }
     ensures { Decides result (Ready (sending_of run.now machine doing) (counts_of cut)) }
 {
-    match run.sending(machine, doing) {
-        None => true,
-        Some(sent) => sent.doing <= cut.of[sent.machine as usize],
-    }
+    run.sending(machine, doing)
+        .is_none_or(|sent| sent.doing <= cut.of[sent.machine as usize])
 }
 
 // Is that so of all of a machine's doings that are behind the cut.
@@ -27,12 +25,7 @@ fn is_closed(run: &Run, cut: Counts, machine: usize) -> bool
     requires done { counts_of cut machine ≤ counts_of run.now.did machine }
     ensures { Decides result ((m : ℕ) → 1 ≤ m → m ≤ counts_of cut machine → Ready (sending_of run.now machine m) (counts_of cut)) }
 {
-    for doing in 1..=cut.of[machine] {
-        if !is_ready(run, cut, machine, doing) {
-            return false;
-        }
-    }
-    true
+    (1..=cut.of[machine]).all(|doing| is_ready(run, cut, machine, doing))
 }
 
 // Is a cut a moment.
@@ -41,10 +34,7 @@ pub fn is_moment(run: &Run, cut: Counts) -> bool
     ensures lattice { Lattice }
     ensures before { ByBefore }
 {
-    for machine in 0..run.count {
-        if run.did.of[machine] < cut.of[machine] || !is_closed(run, cut, machine) {
-            return false;
-        }
-    }
-    true
+    (0..run.count).all(|machine| {
+        cut.of[machine] <= run.did.of[machine] && is_closed(run, cut, machine)
+    })
 }

@@ -22,7 +22,7 @@ after c i lt =
     let told = c.in-Some.ensures in
     let to = counts_of c.args.to in
     elim (on_cases (counts_of c.loop-step.cut) c.in-Some.step.machine i) [
-      | inl (e, is) ↦ omega (arith, is, told.1, ap to e, ap (counts_of c.loop-step.cut) e)
+      | inl (e, is) ↦ omega (arith, is, told.1.ahead, ap to e, ap (counts_of c.loop-step.cut) e)
       | inr (_, is) ↦ omega (arith, is, c.loop-step.invariant.1 i lt)
     ]
 
@@ -35,7 +35,7 @@ loop-step-smaller c =
     let told = c.in-Some.ensures in
     let more : size n cut < size n (go_on cut j) = size_less n cut (go_on cut j) j (λ i _. grind (arith, on_cases cut j i)) told.0 (omega (arith, on_here cut j)) in
     let most : size n (go_on cut j) ≤ size n to = size_le n (go_on cut j) to (after (goal.at.loop-step-smaller c).In-Some) in
-    omega (arith, more, most, ap (size n) told.2)
+    omega (arith, more, most, ap (size n) told.1.after)
 
 pub loop-step-preserved : goal.loop-step-preserved
 loop-step-preserved c =
@@ -46,13 +46,13 @@ loop-step-preserved c =
     let told = c.in-Some.ensures in
     let P : Cut → Type 0 = λ x. Below run x (counts_of c.args.to) in
     let Q : Cut → Type 0 = λ x. Trail run x (counts_of c.args.from) (inv.2.0 ++ j ∷ []) in
-    let next : Moment run (go_on cut j) = subst (Moment run) told.2 told.3 in (
-      told.3,
-      subst P (sym told.2) (after (goal.at.loop-step-preserved c).In-Some),
+    let next : Moment run (go_on cut j) = subst (Moment run) told.1.after told.1.moment in (
+      told.1.moment,
+      subst P (sym told.1.after) (after (goal.at.loop-step-preserved c).In-Some),
       (
         inv.2.0 ++ j ∷ [],
         c.in_ok-push.ensures.items ∙ ap (λ (xs : List ℕ). xs ++ j ∷ []) inv.2.1 ∙ append_assoc (vec_items c.args.turns.now) inv.2.0 (j ∷ []),
-        subst Q (sym told.2) (trail_on c.requires.sound.letters inv.2.2 j told.0 next),
+        subst Q (sym told.1.after) (trail_on c.requires.sound.letters inv.2.2 j told.0 next),
       ),
     )
 
