@@ -36,9 +36,6 @@ past {s = s} {c = c} so_far i lt off d md all =
       | inr ne ↦ omega (arith, so_far.low d md all i lt)
     ]
 
--- where it has no further doing, there is none
-pub over : {r : Run} {s : Says} {v : Vectors} {c : Cut} {p : ℕ} → SoFar r s v c p → (i : ℕ) → i < r.count → s i (c i) ≡ false → r.did i ≤ c i → May r s → ⊥
-over so_far i lt off end (d, md, all) = omega (arith, past so_far i lt off d md all, md.inside i lt)
 
 -- else it goes on by one, and all others by what comes before that
 module _ {r : Run} {s : Says} {v : Vectors} {c : Cut} {p : ℕ} (sound : Sound r) (vectors : VectorsOf r v) (so_far : SoFar r s v c p)
