@@ -1,5 +1,5 @@
 // Ways as the machine of each next doing.
-ghost use Rattle.std.specs.Prelude.{◌≡◌, ℕ, ◌<◌, List, ◌++◌, Decides, MatchOption, OnOk};
+ghost use Rattle.std.specs.Prelude.{◌≡◌, ℕ, ◌<◌, ◌↔◌, List, ◌++◌, IsTrue, MatchOption, OnOk};
 ghost use Rattle.runs.specs.Run.{Sound};
 ghost use Rattle.runs.specs.Moment.{Moment};
 ghost use Rattle.runs.specs.Model.{run_of, counts_of};
@@ -20,7 +20,7 @@ pub(crate) struct Step {
 
 // Is all behind a cut.
 fn is_end(run: &Run, cut: Counts) -> bool
-    ensures { Decides result (Alike (run_of run.now) (counts_of cut) (counts_of run.now.did)) }
+    ensures { IsTrue result ↔ Alike (run_of run.now) (counts_of cut) (counts_of run.now.did) }
 {
     cut.of[..run.count] == run.did.of[..run.count]
 }
@@ -78,7 +78,7 @@ pub fn lead(run: &Run, from: Counts, to: Counts, turns: &mut Vec<u8>) -> Result<
 
 // Is a list of machines a way of the run, each time with the machine's next doing.
 pub fn is_way(run: &Run, turns: &[u8]) -> bool
-    ensures { Decides result (Way (run_of run.now) nothing (cuts_along nothing turns.now)) }
+    ensures { IsTrue result ↔ Way (run_of run.now) nothing (cuts_along nothing turns.now) }
 {
     let mut cut = Counts::none();
     for turn in turns {

@@ -1,4 +1,4 @@
-use Rattle.std.proofs.Common.{ℕ, ◌-◌, vec_items}
+use Rattle.std.proofs.Common.{◌-◌, vec_items}
 use Rattle.runs.specs.Model.{run_of, counts_of}
 use Rattle.order.proofs.Sizes.{size}
 use Rattle.moments.proofs.Trails.{Led}
