@@ -3,13 +3,13 @@ use Rattle.std.proofs.Common.{◌≡◌, ℕ, suc, ◌+◌, ◌*◌, ◌^◌, �
 use Rattle.std.proofs.lemmas.Bool.{cases_eq, both_ways}
 use Rattle.runs.specs.Run.{Run, Sound}
 use Rattle.runs.specs.Moment.{Cut, Moment}
-use Rattle.order.specs.Vectors.{Vectors, VectorsOf}
+use Rattle.order.specs.Vectors.{Vectors}
 use Rattle.order.proofs.Sizes.{size, size_le, size_less, size_most}
 use Rattle.moments.specs.Cuts.{Below, nothing, upper}
-use Rattle.moments.specs.Signs.{Says, AllSay, May}
+use Rattle.moments.specs.Vectors.{LowestWith}
+use Rattle.moments.specs.Signs.{Says, AllSay}
 use Rattle.moments.specs.Amounts.{doings}
 use Rattle.moments.proofs.Laws.{lattice, moment_first, moment_alike}
-use Rattle.moments.proofs.Lowest.{vectors_lowest}
 use Rattle.moments.proofs.Totals.{size_is}
 use Rattle.may_must.specs.MaySearch.{Searched, begins, joins}
 
@@ -36,24 +36,20 @@ past {s = s} {c = c} so_far i lt off d md all =
       | inr ne ↦ omega (arith, so_far.low d md all i lt)
     ]
 
-
 -- else it goes on by one, and all others by what comes before that
-module _ {r : Run} {s : Says} {v : Vectors} {c : Cut} {p : ℕ} (sound : Sound r) (vectors : VectorsOf r v) (so_far : SoFar r s v c p)
-    (i m : ℕ) (lt : i < r.count) (below : (j : ℕ) → j < i → s j (c j) ≡ true) (off : s i (c i) ≡ false) (next : m ≡ c i + 1) (most : m ≤ r.did i)
+module _ {r : Run} {s : Says} {v : Vectors} {c : Cut} {p : ℕ} (sound : Sound r) (so_far : SoFar r s v c p)
+    (i m : ℕ) (lowest : LowestWith r i m (v i m)) (lt : i < r.count) (below : (j : ℕ) → j < i → s j (c j) ≡ true) (off : s i (c i) ≡ false) (next : m ≡ c i + 1) (most : m ≤ r.did i)
     (d : Cut) (is : (k : ℕ) → k < r.count → d k ≡ max (c k) (v i m k)) where
-  one : 1 ≤ m
-  one = omega arith
-
   there : Moment r d
-  there = moment_alike sound.letters (upper c (v i m)) d (λ k h. omega (arith, is k h)) (lattice r c (v i m) so_far.moment (vectors_lowest r v vectors i m lt one most).moment).1
+  there = moment_alike sound.letters (upper c (v i m)) d (λ k h. omega (arith, is k h)) (lattice r c (v i m) so_far.moment lowest.moment).1
 
   lowly : (e : Cut) → Moment r e → AllSay r s e → Below r d e
   lowly e me all k h =
       let gone : m ≤ e i = omega (arith, past so_far i lt off e me all) in
-      omega (arith, is k h, so_far.low e me all k h, (vectors_lowest r v vectors i m lt one most).lowest e me gone k h)
+      omega (arith, is k h, so_far.low e me all k h, lowest.lowest e me gone k h)
 
   more : size r.count c < size r.count d
-  more = size_less r.count c d i (λ k h. omega (arith, is k h)) lt (omega (arith, is i lt, (vectors_lowest r v vectors i m lt one most).behind))
+  more = size_less r.count c d i (λ k h. omega (arith, is k h)) lt (omega (arith, is i lt, lowest.behind))
 
   pub on : (q : ℕ) → q ≡ p + r.count → SoFar r s v d q × (size r.count c < size r.count d) × (size r.count d ≤ size r.count r.did)
   on q is-q = (

@@ -2,13 +2,14 @@ use Rattle.std.proofs.Common.{◌<◌, ◌≤◌, sym, ap, arith}
 use Rattle.runs.specs.Model.{run_of, signs_of, counts_of}
 use Rattle.order.specs.Ordering.{vectors_of}
 use Rattle.order.proofs.Sizes.{size}
+use Rattle.moments.proofs.Lowest.{rows_lowest}
 use Rattle.may_must.specs.declared.may.Search.{Search}
 use Rattle.may_must.proofs.Searching.{SoFar, begun, on, few_pairs, room}
 use Rattle.may_must.proofs.may.first_moment.Goals as goal
 use Rattle.may_must.proofs.may.first_moment.Goals.{After-join-search}
 
 pub anew-init : goal.anew-init
-anew-init c = begun _ _ _ _ c.requires.order.sound c.none.ensures
+anew-init c = begun _ _ _ _ c.args.ordered.now.sound c.none.ensures
 
 pub returns-in_default-clause-few : goal.returns-in_default-clause-few
 returns-in_default-clause-few c = few_pairs c.loop-machine.invariant.1
@@ -24,7 +25,7 @@ gone : (c : After-join-search) →
     SoFar (run_of run) (signs_of run) (vectors_of c.args.ordered.now) cut c.join-search.result.pairs × (size n (counts_of c.loop-machine.search.cut) < size n cut) × (size n cut ≤ size n (counts_of run.did))
 gone c =
     let told = c.in-Some.ensures in
-    on c.requires.order.sound c.requires.order.vectors c.loop-machine.invariant.1 c.loop-machine.machine c.in-Some.next c.loop-machine-test.true c.loop-machine.invariant.2 (sym c.if-sign.ensures) told.0 told.1 (counts_of c.join-search.result.cut) c.join-search.ensures.cut c.join-search.result.pairs c.join-search.ensures.pairs
+    on c.args.ordered.now.sound c.loop-machine.invariant.1 c.loop-machine.machine c.in-Some.next (rows_lowest c.args.ordered.now c.loop-machine.machine c.in-Some.next c.loop-machine-test.true (omega (arith, told.0)) told.1) c.loop-machine-test.true c.loop-machine.invariant.2 (sym c.if-sign.ensures) told.0 told.1 (counts_of c.join-search.result.cut) c.join-search.ensures.cut c.join-search.result.pairs c.join-search.ensures.pairs
 
 pub anew-smaller : goal.anew-smaller
 anew-smaller c =
