@@ -11,7 +11,6 @@ use runs::run::Run;
 // Is the sending behind the cut of what a machine's doing gets, if it gets anything.
 pub(crate) fn is_ready(run: &Run, cut: Counts, machine: usize, doing: u16) -> bool
     requires inside { machine < run.now.count }
-    requires some { 1 ≤ doing }
     requires done { doing ≤ counts_of run.now.did machine }
     ensures { IsTrue result ↔ Ready (sending_of run.now machine doing) (counts_of cut) }
 {
