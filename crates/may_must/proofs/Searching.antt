@@ -1,16 +1,18 @@
 -- What the search for the first moment keeps.
 use Rattle.std.proofs.Common.{◌≡◌, ℕ, suc, ◌+◌, ◌*◌, ◌^◌, ◌<◌, ◌≤◌, max, true, false, ap, ◌∙◌, inl, inr, mul-le-mul, mul-le-mul_left, mul-one, mul-suc, mul-add, arith}
 use Rattle.std.proofs.lemmas.Bool.{cases_eq, both_ways}
-use Rattle.runs.specs.Run.{Run, Sound}
+use Rattle.runs.specs.Run.{Run, Done}
+use Rattle.runs.specs.Model.{counts_of}
 use Rattle.runs.specs.Moment.{Cut, Moment}
-use Rattle.order.specs.Vectors.{Vectors, VectorsOf}
+use Rattle.order.specs.Vectors.{Vectors}
 use Rattle.order.proofs.Sizes.{size, size_le, size_less, size_most}
 use Rattle.moments.specs.Cuts.{Below, nothing, upper}
-use Rattle.moments.specs.Signs.{Says, AllSay, May}
+use Rattle.moments.specs.Vectors.{LowestWith}
+use Rattle.moments.specs.Signs.{Says, AllSay}
 use Rattle.moments.specs.Amounts.{doings}
 use Rattle.moments.proofs.Laws.{lattice, moment_first, moment_alike}
-use Rattle.moments.proofs.Lowest.{vectors_lowest}
 use Rattle.moments.proofs.Totals.{size_is}
+use Rattle.may_must.specs.declared.may.Search.{Search}
 use Rattle.may_must.specs.MaySearch.{Searched, begins, joins}
 
 -- the cut is a moment, no moment of all yes is below it anywhere, and so much was compared
@@ -18,14 +20,24 @@ pub record SoFar (r : Run) (s : Says) (v : Vectors) (c : Cut) (pairs : ℕ) : Ty
   pub moment : Moment r c
   pub low : (d : Cut) → Moment r d → AllSay r s d → Below r c d
   pub few : pairs ≤ r.count * size r.count c
-  pub made : (k : ℕ) × Searched r s v k c × (pairs ≡ r.count * k)
+  pub joins : ℕ
+  pub searched : Searched r s v joins c
+  pub each : pairs ≡ r.count * joins
 
-pub begun : (r : Run) (s : Says) (v : Vectors) (c : Cut) → Sound r → ((k : ℕ) → c k ≡ 0) → SoFar r s v c 0
-begun r s v c sound none = record {
-  moment = moment_alike sound.letters nothing c (λ i lt. omega (arith, none i)) (moment_first sound.letters);
+-- the machines below n say yes, and none has gone on since the loop over them began
+pub record Passed (r : Run) (s : Says) (v : Vectors) (begun now : Search) (n : ℕ) : Type 0 where
+  pub same : now ≡ begun
+  pub so_far : SoFar r s v (counts_of now.cut) now.pairs
+  pub below : (k : ℕ) → k < n → s k (counts_of now.cut k) ≡ true
+
+pub begun : (r : Run) (s : Says) (v : Vectors) (c : Cut) → Done r → ((k : ℕ) → c k ≡ 0) → SoFar r s v c 0
+begun r s v c done none = record {
+  moment = moment_alike done nothing c (λ i lt. omega (arith, none i)) (moment_first done);
   low = λ d md all i lt. omega (arith, none i);
   few = omega arith;
-  made = (0, begins (λ j lt. none j), omega arith);
+  joins = 0;
+  searched = begins (λ j lt. none j);
+  each = omega arith;
 }
 
 -- a machine whose sign is no at the cut has gone on at every moment of all yes
@@ -36,27 +48,20 @@ past {s = s} {c = c} so_far i lt off d md all =
       | inr ne ↦ omega (arith, so_far.low d md all i lt)
     ]
 
--- where it has no further doing, there is none
-pub over : {r : Run} {s : Says} {v : Vectors} {c : Cut} {p : ℕ} → SoFar r s v c p → (i : ℕ) → i < r.count → s i (c i) ≡ false → r.did i ≤ c i → May r s → ⊥
-over so_far i lt off end (d, md, all) = omega (arith, past so_far i lt off d md all, md.inside i lt)
-
--- else it goes on by one, and all others by what comes before that
-module _ {r : Run} {s : Says} {v : Vectors} {c : Cut} {p : ℕ} (sound : Sound r) (vectors : VectorsOf r v) (so_far : SoFar r s v c p)
-    (i m : ℕ) (lt : i < r.count) (below : (j : ℕ) → j < i → s j (c j) ≡ true) (off : s i (c i) ≡ false) (next : m ≡ c i + 1) (most : m ≤ r.did i)
+-- it goes on by one doing, and all others by what comes before that
+module _ {r : Run} {s : Says} {v : Vectors} {c : Cut} {p : ℕ} (done : Done r) (so_far : SoFar r s v c p)
+    (i m : ℕ) (lowest : LowestWith r i m (v i m)) (lt : i < r.count) (below : (j : ℕ) → j < i → s j (c j) ≡ true) (off : s i (c i) ≡ false) (next : m ≡ c i + 1) (most : m ≤ r.did i)
     (d : Cut) (is : (k : ℕ) → k < r.count → d k ≡ max (c k) (v i m k)) where
-  one : 1 ≤ m
-  one = omega arith
-
   there : Moment r d
-  there = moment_alike sound.letters (upper c (v i m)) d (λ k h. omega (arith, is k h)) (lattice r c (v i m) so_far.moment (vectors_lowest r v vectors i m lt one most).moment).1
+  there = moment_alike done (upper c (v i m)) d (λ k h. omega (arith, is k h)) (lattice r c (v i m) so_far.moment lowest.moment).1
 
   lowly : (e : Cut) → Moment r e → AllSay r s e → Below r d e
   lowly e me all k h =
       let gone : m ≤ e i = omega (arith, past so_far i lt off e me all) in
-      omega (arith, is k h, so_far.low e me all k h, (vectors_lowest r v vectors i m lt one most).lowest e me gone k h)
+      omega (arith, is k h, so_far.low e me all k h, lowest.lowest e me gone k h)
 
   more : size r.count c < size r.count d
-  more = size_less r.count c d i (λ k h. omega (arith, is k h)) lt (omega (arith, is i lt, (vectors_lowest r v vectors i m lt one most).behind))
+  more = size_less r.count c d i (λ k h. omega (arith, is k h)) lt (omega (arith, is i lt, lowest.behind))
 
   pub on : (q : ℕ) → q ≡ p + r.count → SoFar r s v d q × (size r.count c < size r.count d) × (size r.count d ≤ size r.count r.did)
   on q is-q = (
@@ -64,9 +69,9 @@ module _ {r : Run} {s : Says} {v : Vectors} {c : Cut} {p : ℕ} (sound : Sound r
       moment = there;
       low = lowly;
       few = omega (arith, so_far.few, mul-le-mul_left r.count more, mul-add r.count (size r.count c) 1, mul-one r.count);
-      made =
-          let old = so_far.made in
-          (suc old.0, joins i old.1 (record { inside = lt; below = below; here = off }) (omega arith) (λ j h. is j h ∙ ap (λ (x : ℕ). max (c j) (v i x j)) next), omega (arith, old.2, mul-suc r.count old.0));
+      joins = suc so_far.joins;
+      searched = joins i so_far.searched (record { inside = lt; below = below; here = off }) (omega arith) (λ j h. is j h ∙ ap (λ (x : ℕ). max (c j) (v i x j)) next);
+      each = omega (arith, so_far.each, is-q, mul-suc r.count so_far.joins);
     },
     more,
     size_le r.count d r.did there.inside,

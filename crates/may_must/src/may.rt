@@ -1,8 +1,7 @@
 // The search for the first moment of all yes.
 ghost use Rattle.std.specs.Prelude.{◌≡◌, ℕ, ◌+◌, ◌*◌, ◌^◌, ◌<◌, ◌≤◌, max};
 ghost use Rattle.runs.specs.Model.{run_of, signs_of, counts_of};
-ghost use Rattle.order.specs.Vectors.{VectorsOf};
-ghost use Rattle.order.specs.Ordering.{vectors_of, InOrder};
+ghost use Rattle.order.specs.Ordering.{vectors_of};
 ghost use Rattle.moments.specs.Signs.{FirstOrNone};
 ghost use Rattle.moments.specs.Amounts.{doings};
 ghost use Rattle.may_must.specs.MaySearch.{Compared};
@@ -28,7 +27,6 @@ pub struct Found {
 impl Search {
     // A machine goes on to a doing, and all others by what comes before that.
     fn join(self, ordered: &Ordered, machine: usize, doing: u16) -> Search
-        requires vectors { VectorsOf (run_of ordered.now.run) (vectors_of ordered.now) }
         requires inside { machine < ordered.now.run.count }
         requires some { 1 ≤ doing }
         requires done { doing ≤ counts_of ordered.now.run.did machine }
@@ -48,8 +46,8 @@ impl Search {
 
 // Begins with nothing behind. While some machine's sign is no, it goes on by one doing, and all others by what comes before that; if it
 // has no further doing, there is no such moment.
+// A rule of the project keeps the labelled loop over machines, which is begun anew when one has gone on.
 pub fn first_moment(ordered: &Ordered) -> Found
-    requires order { InOrder ordered.now }
     ensures first { FirstOrNone (run_of ordered.now.run) (signs_of ordered.now.run) result.first }
     ensures few { result.pairs ≤ ordered.now.run.count * doings (run_of ordered.now.run) }
     ensures compared { Compared (run_of ordered.now.run) (signs_of ordered.now.run) (vectors_of ordered.now) result.first result.pairs }

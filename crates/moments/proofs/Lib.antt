@@ -1,4 +1,5 @@
 mod Decided
+pub mod Between
 pub mod Laws
 pub mod GoingOn
 pub mod OnAWay

@@ -1,8 +1,13 @@
 -- A doing's vector is the lowest moment that has the doing behind it.
-use Rattle.std.proofs.Common.{inl, inr, arith}
+use Rattle.std.proofs.Common.{ℕ, ◌<◌, ◌≤◌, inl, inr, arith}
 use Rattle.std.proofs.lemmas.Bool.{cases_lt}
+use Rattle.std.proofs.Math.Logic.{∥∥₁_elim}
+use Rattle.std.proofs.Props.{props}
+use Rattle.runs.specs.Model.{run_of, counts_of}
+use Rattle.order.specs.declared.ordered.Ordered.{Ordered}
+use Rattle.order.specs.Ordering.{vectors_of}
 use Rattle.order.proofs.Behind.{upto_behind}
-use Rattle.moments.specs.Vectors.{VectorsLowest}
+use Rattle.moments.specs.Vectors.{LowestWith, VectorsLowest}
 
 pub vectors_lowest : VectorsLowest
 vectors_lowest r v vectors j n j< one n≤ = record {
@@ -17,3 +22,6 @@ vectors_lowest r v vectors j n j< one n≤ = record {
         ]
   ];
 }
+
+pub rows_lowest : (o : Ordered) (j n : ℕ) → j < o.run.count → 1 ≤ n → n ≤ counts_of o.run.did j → LowestWith (run_of o.run) j n (vectors_of o j n)
+rows_lowest o j n j< one n≤ = ∥∥₁_elim o.vectors (Prim.hlevel props) (λ vectors. vectors_lowest (run_of o.run) (vectors_of o) vectors j n j< one n≤)

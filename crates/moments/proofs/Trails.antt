@@ -1,6 +1,7 @@
 -- Paths by the machine of each next doing.
-use Rattle.std.proofs.Common.{◌≡◌, ℕ, ◌+◌, ◌<◌, eqb, List, [], ◌∷◌, ◌++◌, set, sym, refl, ap, ◌∙◌, subst, inl, inr, arith}
+use Rattle.std.proofs.Common.{◌≡◌, ℕ, ◌+◌, ◌<◌, eqb, List, [], ◌∷◌, ◌++◌, length, get_or, drop, set, sym, refl, ap, ◌∙◌, subst, inl, inr, arith}
 use mathlib.Core.Path.{fun_ext}
+use Rattle.std.proofs.lemmas.List.{drop_more}
 use Rattle.std.proofs.lemmas.Bool.{eq-eqb, ne_eqb, cond-true, cond-false, cases_eq}
 use Rattle.runs.specs.declared.counts.Counts.{Counts}
 use Rattle.runs.specs.Run.{Run, Done}
@@ -8,9 +9,9 @@ use Rattle.runs.specs.Moment.{Cut, Moment}
 use Rattle.runs.specs.Model.{counts_of}
 use Rattle.runs.proofs.Places.{set_here, set_rest}
 use Rattle.order.specs.Turns.{turns_of}
-use Rattle.moments.specs.Cuts.{Alike}
-use Rattle.moments.specs.Ways.{Next, Path, there, step, go_on, cuts_along, Leads}
-use Rattle.moments.proofs.Laws.{moment_alike}
+use Rattle.moments.specs.Cuts.{Alike, Below, nothing}
+use Rattle.moments.specs.Ways.{Next, Path, there, step, Way, go_on, cuts_along, Leads}
+use Rattle.moments.proofs.Laws.{moment_alike, moment_first}
 use Rattle.moments.proofs.GoingOn.{on_cases, on_next}
 
 -- counts with one doing more of a machine
@@ -86,10 +87,6 @@ path_trail {r} {d} (j ∷ js) c p =
 on_alike : (r : Run) (c d : Cut) (j : ℕ) → Alike r c d → Alike r (go_on c j) (go_on d j)
 on_alike r c d j same i lt = grind (arith, on_cases c j i, on_cases d j i, same i lt)
 
-trail_alike : {r : Run} → Done r → {e c : Cut} {js : List ℕ} → Trail r e c js → (d : Cut) → Alike r c d → Trail r e d js
-trail_alike done (here {c} m end) d same = here (moment_alike done c d same m) (λ i lt. sym (same i lt) ∙ end i lt)
-trail_alike {r} done (on {c} j m lt rest) d same = on j (moment_alike done c d same m) lt (trail_alike done rest (go_on d j) (on_alike r c d j same))
-
 -- one doing more at the end
 pub trail_on : {r : Run} → Done r → {d c : Cut} {js : List ℕ} → Trail r d c js → (j : ℕ) → j < r.count → Moment r (go_on d j) → Trail r (go_on d j) c (js ++ j ∷ [])
 trail_on {r} done {d} (here {c} m same) j lt next =
@@ -120,3 +117,33 @@ trail_parts (on j m lt rest) = (lt, trail_first rest, rest)
 
 pub trail_end : {r : Run} {d c : Cut} → Trail r d c [] → Alike r c d
 trail_end (here m same) = same
+
+-- the list is a way exactly if what is left of it leads from here to the end
+pub record Left (r : Run) (js rest : List ℕ) (c : Cut) : Type 0 where
+  pub moment : Moment r c
+  pub leads : Way r nothing (cuts_along nothing js) → Trail r r.did c rest
+  pub way : Trail r r.did c rest → Way r nothing (cuts_along nothing js)
+
+pub all_left : {r : Run} → Done r → (js : List ℕ) → Left r js js nothing
+all_left done js = record { moment = moment_first done; leads = path_trail js nothing; way = trail_path }
+
+-- the machine whose turn it is
+pub turn_left : {r : Run} {js : List ℕ} {c : Cut} (n : ℕ) → n < length js → Left r js (drop n js) c → Left r js (get_or js n 0 ∷ drop (n + 1) js) c
+turn_left {r} {js} {c} n lt left = subst (λ rest. Left r js rest c) (drop_more js n 0 lt) left
+
+pub goes : {r : Run} {js rest : List ℕ} {c : Cut} {j : ℕ} → Left r js (j ∷ rest) c → Way r nothing (cuts_along nothing js) → (j < r.count) × Moment r (go_on c j)
+goes left way = let parts = trail_parts (left.leads way) in (parts.0, parts.1)
+
+pub one_left : {r : Run} {js rest : List ℕ} {c : Cut} {j : ℕ} → Left r js (j ∷ rest) c → j < r.count → Moment r (go_on c j) → Left r js rest (go_on c j)
+one_left {j} left lt next = record { moment = next; leads = λ way. (trail_parts (left.leads way)).2; way = λ trail. left.way (on j left.moment lt trail) }
+
+pub none_left : {r : Run} {js : List ℕ} {c : Cut} → Left r js [] c → (Way r nothing (cuts_along nothing js) → Alike r c r.did) × (Alike r c r.did → Way r nothing (cuts_along nothing js))
+none_left left = (λ way. trail_end (left.leads way), λ same. left.way (here left.moment same))
+
+-- so far the list leads from one moment to another, no further than to a third
+pub record Led (r : Run) (from to c : Cut) (before now : List ℕ) : Type 0 where
+  pub moment : Moment r c
+  pub below : Below r c to
+  pub turns : List ℕ
+  pub added : now ≡ before ++ turns
+  pub trail : Trail r c from turns

@@ -1,5 +1,5 @@
 // Whether a cut is a moment.
-ghost use Rattle.std.specs.Prelude.{ℕ, ◌<◌, ◌≤◌, Decides};
+ghost use Rattle.std.specs.Prelude.{ℕ, ◌<◌, ◌≤◌, ◌↔◌, IsTrue};
 ghost use Rattle.order.specs.Steps.{Ready};
 ghost use Rattle.runs.specs.Model.{run_of, sending_of, counts_of};
 ghost use Rattle.runs.specs.Moment.{Moment};
@@ -11,40 +11,29 @@ use runs::run::Run;
 // Is the sending behind the cut of what a machine's doing gets, if it gets anything.
 pub(crate) fn is_ready(run: &Run, cut: Counts, machine: usize, doing: u16) -> bool
     requires inside { machine < run.now.count }
-    requires some { 1 ≤ doing }
     requires done { doing ≤ counts_of run.now.did machine }
-    ensures { Decides result (Ready (sending_of run.now machine doing) (counts_of cut)) }
+    ensures { IsTrue result ↔ Ready (sending_of run.now machine doing) (counts_of cut) }
 {
-    match run.sending(machine, doing) {
-        None => true,
-        Some(sent) => sent.doing <= cut.of[sent.machine as usize],
-    }
+    run.sending(machine, doing)
+        .is_none_or(|sent| sent.doing <= cut.of[sent.machine as usize])
 }
 
 // Is that so of all of a machine's doings that are behind the cut.
 fn is_closed(run: &Run, cut: Counts, machine: usize) -> bool
     requires inside { machine < run.now.count }
     requires done { counts_of cut machine ≤ counts_of run.now.did machine }
-    ensures { Decides result ((m : ℕ) → 1 ≤ m → m ≤ counts_of cut machine → Ready (sending_of run.now machine m) (counts_of cut)) }
+    ensures { IsTrue result ↔ ((m : ℕ) → 1 ≤ m → m ≤ counts_of cut machine → Ready (sending_of run.now machine m) (counts_of cut)) }
 {
-    for doing in 1..=cut.of[machine] {
-        if !is_ready(run, cut, machine, doing) {
-            return false;
-        }
-    }
-    true
+    (1..=cut.of[machine]).all(|doing| is_ready(run, cut, machine, doing))
 }
 
 // Is a cut a moment.
 pub fn is_moment(run: &Run, cut: Counts) -> bool
-    ensures decides { Decides result (Moment (run_of run.now) (counts_of cut)) }
+    ensures decides { IsTrue result ↔ Moment (run_of run.now) (counts_of cut) }
     ensures lattice { Lattice }
     ensures before { ByBefore }
 {
-    for machine in 0..run.count {
-        if run.did.of[machine] < cut.of[machine] || !is_closed(run, cut, machine) {
-            return false;
-        }
-    }
-    true
+    (0..run.count).all(|machine| {
+        cut.of[machine] <= run.did.of[machine] && is_closed(run, cut, machine)
+    })
 }

@@ -1,9 +1,7 @@
 // Vectors as moments.
 ghost use Rattle.std.specs.Prelude.{◌≡◌, ◌<◌, ◌≤◌};
 ghost use Rattle.runs.specs.Model.{run_of, counts_of};
-ghost use Rattle.order.specs.Vectors.{VectorsOf};
 ghost use Rattle.order.specs.Rows.{rows_in};
-ghost use Rattle.order.specs.Ordering.{vectors_of};
 ghost use Rattle.moments.specs.Vectors.{LowestWith, VectorsLowest};
 
 use order::ordered::Ordered;
@@ -11,7 +9,6 @@ use runs::counts::Counts;
 
 // A doing's vector: the lowest moment that has the doing behind it.
 pub fn vector(ordered: &Ordered, machine: usize, doing: u16) -> Counts
-    requires vectors { VectorsOf (run_of ordered.now.run) (vectors_of ordered.now) }
     requires inside { machine < ordered.now.run.count }
     requires some { 1 ≤ doing }
     requires done { doing ≤ counts_of ordered.now.run.did machine }

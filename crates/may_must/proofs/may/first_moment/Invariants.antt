@@ -1,16 +1,12 @@
-use Rattle.std.proofs.Common.{◌≡◌, ℕ, ◌-◌, ◌<◌, true}
+use Rattle.std.proofs.Common.{◌-◌}
 use Rattle.runs.specs.Model.{run_of, signs_of, counts_of}
 use Rattle.order.specs.Ordering.{vectors_of}
 use Rattle.order.proofs.Sizes.{size}
-use Rattle.may_must.proofs.Searching.{SoFar}
+use Rattle.may_must.proofs.Searching.{SoFar, Passed}
 use Rattle.may_must.proofs.may.first_moment.Given as goal
 
--- the machines below say yes, and none has gone on since the loop began anew
 abbrev pub invariant-loop-machine : goal.invariant-loop-machine
-invariant-loop-machine l =
-    (l.search ≡ l.initial.search)
-    × SoFar (run_of l.ordered.run) (signs_of l.ordered.run) (vectors_of l.ordered) (counts_of l.search.cut) l.search.pairs
-    × ((k : ℕ) → k < l.machine → signs_of l.ordered.run k (counts_of l.search.cut k) ≡ true)
+invariant-loop-machine l = Passed (run_of l.ordered.run) (signs_of l.ordered.run) (vectors_of l.ordered) l.initial.search l.search l.machine
 
 abbrev pub invariant-anew : goal.invariant-anew
 invariant-anew l = SoFar (run_of l.ordered.run) (signs_of l.ordered.run) (vectors_of l.ordered) (counts_of l.search.cut) l.search.pairs

@@ -4,9 +4,8 @@ use Rattle.runs.specs.declared.counts.Counts.{Counts}
 use Rattle.runs.specs.Model.{run_of, counts_of}
 use Rattle.runs.specs.Shape.{index}
 use Rattle.order.specs.Rows.{rows_in, none}
-use Rattle.order.specs.Ordering.{vectors_of}
 use Rattle.moments.specs.Vectors.{LowestWith}
-use Rattle.moments.proofs.Lowest.{vectors_lowest}
+use Rattle.moments.proofs.Lowest.{rows_lowest, vectors_lowest}
 use Rattle.moments.proofs.vector.vector.Goals as goal
 
 pub returns : goal.returns
@@ -18,6 +17,6 @@ returns c =
     let P : Counts → Type 0 = λ w. LowestWith (run_of o.run) j m (counts_of w) in
     record {
       row = is;
-      lowest = subst P (sym is) (vectors_lowest (run_of o.run) (vectors_of o) c.requires.vectors j m c.requires.inside c.requires.some c.requires.done);
+      lowest = subst P (sym is) (rows_lowest o j m c.requires.inside c.requires.some c.requires.done);
       always = vectors_lowest;
     }

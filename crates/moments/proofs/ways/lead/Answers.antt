@@ -1,4 +1,4 @@
-use Rattle.std.proofs.Common.{ℕ, ◌<◌, ◌≤◌, List, [], ◌∷◌, ◌++◌, vec_items, sym, refl, ap, ◌∙◌, subst, inl, inr, append_assoc, append-nil, arith, rules}
+use Rattle.std.proofs.Common.{ℕ, ◌<◌, ◌≤◌, List, [], ◌∷◌, ◌++◌, vec_items, sym, refl, ap, ◌∙◌, subst, inl, inr, append_assoc, append-nil, arith}
 use Rattle.runs.specs.Model.{run_of, counts_of}
 use Rattle.runs.specs.Moment.{Cut, Moment}
 use Rattle.order.proofs.Sizes.{size, size_le, size_less}
@@ -11,19 +11,30 @@ use Rattle.moments.proofs.ways.lead.Goals as goal
 use Rattle.moments.proofs.ways.lead.Goals.{In-Some}
 
 pub loop-step-init : goal.loop-step-init
-loop-step-init c = (c.requires.from, c.requires.below, ([], sym (append-nil (vec_items c.args.turns.now)), here c.requires.from (λ i lt. refl)))
+loop-step-init c = record {
+  moment = c.requires.from;
+  below = c.requires.below;
+  turns = [];
+  added = sym (append-nil (vec_items c.args.turns.now));
+  trail = here c.requires.from (λ i lt. refl);
+}
 
-pub returns-in_err-push : goal.returns-in_err-push
-returns-in_err-push c = record { leads = search rules; toward = toward; onward = goes_on; way = on_a_way }
+pub returns-in_err-push-clause-toward : goal.returns-in_err-push-clause-toward
+returns-in_err-push-clause-toward c = toward
+
+pub returns-in_err-push-clause-onward : goal.returns-in_err-push-clause-onward
+returns-in_err-push-clause-onward c = goes_on
+
+pub returns-in_err-push-clause-way : goal.returns-in_err-push-clause-way
+returns-in_err-push-clause-way c = on_a_way
 
 -- one doing more, and no further than is to be gone
 after : (c : In-Some) → Below (run_of c.args.run.now) (go_on (counts_of c.loop-step.cut) c.in-Some.step.machine) (counts_of c.args.to)
 after c i lt =
-    let told = c.in-Some.ensures in
     let to = counts_of c.args.to in
     elim (on_cases (counts_of c.loop-step.cut) c.in-Some.step.machine i) [
-      | inl (e, is) ↦ omega (arith, is, told.1, ap to e, ap (counts_of c.loop-step.cut) e)
-      | inr (_, is) ↦ omega (arith, is, c.loop-step.invariant.1 i lt)
+      | inl (e, is) ↦ omega (arith, is, c.in-Some.ensures.1.ahead, ap to e, ap (counts_of c.loop-step.cut) e)
+      | inr (_, is) ↦ omega (arith, is, c.loop-step.invariant.below i lt)
     ]
 
 pub loop-step-smaller : goal.loop-step-smaller
@@ -35,34 +46,33 @@ loop-step-smaller c =
     let told = c.in-Some.ensures in
     let more : size n cut < size n (go_on cut j) = size_less n cut (go_on cut j) j (λ i _. grind (arith, on_cases cut j i)) told.0 (omega (arith, on_here cut j)) in
     let most : size n (go_on cut j) ≤ size n to = size_le n (go_on cut j) to (after (goal.at.loop-step-smaller c).In-Some) in
-    omega (arith, more, most, ap (size n) told.2)
+    omega (arith, more, most, ap (size n) told.1.after)
 
 pub loop-step-preserved : goal.loop-step-preserved
 loop-step-preserved c =
     let run = run_of c.args.run.now in
-    let inv = c.loop-step.invariant in
-    let cut = counts_of c.loop-step.cut in
+    let led = c.loop-step.invariant in
     let j = c.in-Some.step.machine in
-    let told = c.in-Some.ensures in
+    let step = c.in-Some.ensures.1 in
+    let before = vec_items c.args.turns.now in
+    let turns : List ℕ = led.turns ++ j ∷ [] in
     let P : Cut → Type 0 = λ x. Below run x (counts_of c.args.to) in
-    let Q : Cut → Type 0 = λ x. Trail run x (counts_of c.args.from) (inv.2.0 ++ j ∷ []) in
-    let next : Moment run (go_on cut j) = subst (Moment run) told.2 told.3 in (
-      told.3,
-      subst P (sym told.2) (after (goal.at.loop-step-preserved c).In-Some),
-      (
-        inv.2.0 ++ j ∷ [],
-        c.in_ok-push.ensures.items ∙ ap (λ (xs : List ℕ). xs ++ j ∷ []) inv.2.1 ∙ append_assoc (vec_items c.args.turns.now) inv.2.0 (j ∷ []),
-        subst Q (sym told.2) (trail_on c.requires.sound.letters inv.2.2 j told.0 next),
-      ),
-    )
+    let Q : Cut → Type 0 = λ x. Trail run x (counts_of c.args.from) turns in
+    record {
+      moment = step.moment;
+      below = subst P (sym step.after) (after (goal.at.loop-step-preserved c).In-Some);
+      turns = turns;
+      added = c.in_ok-push.ensures.items ∙ ap (λ (xs : List ℕ). xs ++ j ∷ []) led.added ∙ append_assoc before led.turns (j ∷ []);
+      trail = subst Q (sym step.after) (trail_on c.requires.sound.letters led.trail j c.in-Some.ensures.0 (subst (Moment run) step.after step.moment));
+    }
 
 pub returns : goal.returns
 returns c =
     let run = run_of c.args.run.now in
-    let inv = c.loop-step.invariant in
+    let led = c.loop-step.invariant in
     let to = counts_of c.args.to in
     record {
-      leads = (inv.2.0, inv.2.1, trail_leads (trail_to inv.2.2 to (arrived run c.requires.sound (counts_of c.loop-step.cut) to inv.0 c.requires.to inv.1 c.in_default.ensures)));
+      leads = (led.turns, led.added, trail_leads (trail_to led.trail to (arrived run c.requires.sound (counts_of c.loop-step.cut) to led.moment c.requires.to led.below c.in_default.ensures)));
       toward = toward;
       onward = goes_on;
       way = on_a_way;
