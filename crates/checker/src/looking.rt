@@ -1,7 +1,6 @@
 // Looks at an answer to may beside the run.
 ghost use Rattle.std.specs.Prelude.{◌≡◌, ℕ, ◌<◌, ◌≤◌, ◌↔◌, length, IfOk, IsTrue, slice_index};
 ghost use Rattle.runs.specs.Model.{run_of, signs_of, counts_of};
-ghost use Rattle.order.specs.Ordering.{InOrder};
 ghost use Rattle.answers.specs.Model.{answer_of};
 ghost use Rattle.checker.specs.Verdict.{CutFits};
 ghost use Rattle.checker.specs.Looking.{MayFits, MayHolds, MayJudged};
@@ -42,20 +41,23 @@ fn fits(run: &Run, answer: &Answer) -> bool
 
 // Does an answer say what the search anew finds.
 fn holds(ordered: &Ordered, answer: &Answer) -> bool
-    requires order { InOrder ordered.now }
-    requires form { MayFits (run_of ordered.now.run) (answer_of answer.now) }
+    requires { MayFits (run_of ordered.now.run) (answer_of answer.now) }
     ensures { IsTrue result ↔ MayHolds (run_of ordered.now.run) (signs_of ordered.now.run) (answer_of answer.now) }
 {
     let first = first_moment(ordered).first;
     match answer {
-        Answer::MayYes(cut) => first.is_some_and(|counts| is_cut(counts, cut)),
+        Answer::MayYes(cut) => {
+            let Some(counts) = first else {
+                return false;
+            };
+            is_cut(counts, cut)
+        }
         Answer::MayNo => first.is_none(),
     }
 }
 
 // What bytes come to as an answer to may of the run.
 pub(crate) fn look(heap: Global, ordered: &Ordered, bytes: &[u8]) -> Result<Verdict, AllocError>
-    requires order { InOrder ordered.now }
     ensures { IfOk result (MayJudged (run_of ordered.now.run) (signs_of ordered.now.run) bytes.now) }
 {
     let Some(counted) = read_answer(heap, bytes)? else {

@@ -11,9 +11,6 @@ returns-in_err-refused-in-Err-clause-one c = one_verdict
 pub returns-in_ok-refused-in-Err-clause-one : goal.returns-in_ok-refused-in-Err-clause-one
 returns-in_ok-refused-in-Err-clause-one c = one_verdict
 
-pub look-requires : goal.look-requires
-look-requires c = record { order = (c.in-Ok.ensures.ok (files_of c.args.files.now) refl).order }
-
 pub returns-in-Ok-clause-judged : goal.returns-in-Ok-clause-judged
 returns-in-Ok-clause-judged c =
     let asked = c.in-Ok.asked in
