@@ -1,4 +1,5 @@
 mod Ranks
+mod Counted
 mod Counting
 mod Surveying
 mod Marking

@@ -1,16 +1,22 @@
 -- Marks on cuts, one after the other.
-use Rattle.std.proofs.Common.{◌≡◌, ℕ, ◌+◌, ◌-◌, ◌<◌, Bool, false, List, length, get_or, set, Decides, sym, ap, ◌∙◌, subst, inl, inr, arith}
+use Rattle.std.proofs.Common.{◌≡◌, ℕ, ◌+◌, ◌-◌, ◌<◌, Bool, false, List, length, get_or, set, Some, None, Decides, Option, MatchOption, sym, ap, ◌∙◌, subst, inl, inr, arith}
 use Rattle.std.proofs.lemmas.List.{get_or-set_same, get_or-set_other}
 use Rattle.std.proofs.lemmas.Bool.{cases_lt}
+use Rattle.std.proofs.lemmas.Option.{MatchOption-at_some}
+use Rattle.runs.specs.declared.run.Run as code
 use Rattle.runs.specs.Run.{Run, Done}
+use Rattle.runs.specs.Model.{run_of, signs_of, counts_of}
+use Rattle.runs.proofs.Linked.{linked}
 use Rattle.runs.specs.Moment.{Cut, Moment}
 use Rattle.moments.specs.Cuts.{Alike, Below}
 use Rattle.moments.specs.Signs.{Says, AllSay, ComesTo, begins, goes}
 use Rattle.moments.proofs.GoingOn.{back, back_here, back_below, back_else, back_next, next_back}
 use Rattle.moments.proofs.Avoiding.{comes_alike}
-use Rattle.exhaustive.specs.Counter.{weight, rank_of}
+use Rattle.exhaustive.specs.Counter.{weight, cuts_of, rank_of}
 use Rattle.exhaustive.specs.Marks.{Marked, Came}
-use Rattle.exhaustive.proofs.Ranks.{rank_next, rank_once, rank_none, weight_some}
+use Rattle.exhaustive.specs.Turns.{Follows}
+use Rattle.exhaustive.specs.declared.cut.Cut as held
+use Rattle.exhaustive.proofs.Ranks.{rank_next, rank_once, rank_none, weight_some, cut_of}
 
 -- the number of the cut with one doing less
 pub rank_back : (r : Run) (c : Cut) (i : ℕ) → i < r.count → 0 < c i → rank_of r c ≡ rank_of r (back c i) + weight r.did i
@@ -50,3 +56,35 @@ module _ (r : Run) (done : Done r) (s : Says) (marks : List Bool) (c : Cut) (ins
             let P : Bool → Type 0 = λ x. Decides x (ComesTo r s d) in
             subst P (sym is) (λ t. comes_alike r done s d same (told.0 t), λ x. told.1 (comes_alike r done s c (λ i k. sym (same i k)) x))
       ]
+
+-- marks up to the next cut that has its turn, or to the end
+abbrev pub MarkedTo : code.Run → List Bool → Option held.Cut → Type 0
+MarkedTo run marks o = MatchOption o (Marked (run_of run) (signs_of run) marks (cuts_of (run_of run))) (λ cut. (cut.run.now ≡ run) × Marked (run_of run) (signs_of run) marks cut.number)
+
+-- one turn more
+pub mark_turn : (run : code.Run) (marks : List Bool) (now : Option held.Cut) (cut : held.Cut) (next : Option held.Cut) (b : Bool) → length marks ≡ cuts_of (run_of run) → now ≡ Some cut → Follows cut next
+    → Decides b (ComesTo (run_of cut.run.now) (signs_of cut.run.now) (counts_of cut.counts)) → MarkedTo run marks now → MarkedTo run (set marks cut.number b) next
+mark_turn run marks now cut next b long is follows told marked = go next follows
+  where
+    old : (cut.run.now ≡ run) × Marked (run_of run) (signs_of run) marks cut.number
+    old = MatchOption-at_some _ _ cut is marked
+
+    more : Marked (run_of run) (signs_of run) (set marks cut.number b) (cut.number + 1)
+    more =
+        let r = run_of run in
+        let s = signs_of run in
+        let c = counts_of cut.counts in
+        let of = cut_of run cut old.0 in
+        let P : ℕ → Type 0 = λ n. Marked r s marks n in
+        let Q : ℕ → Type 0 = λ n. Marked r s (set marks n b) (n + 1) in
+        let R : code.Run → Type 0 = λ x. Decides b (ComesTo (run_of x) (signs_of x) c) in
+        subst Q (sym of.numbered) (mark_more r (linked run).range s marks c of.inside (subst P of.numbered old.1) b (omega (arith, of.numbered, of.within, long)) (subst R old.0 told))
+
+    go : (o : Option held.Cut) → Follows cut o → MarkedTo run (set marks cut.number b) o
+    go None last =
+        let e : cut.number + 1 ≡ cuts_of (run_of run) = last ∙ ap (λ (x : code.Run). cuts_of (run_of x)) old.0 in
+        let P : ℕ → Type 0 = Marked (run_of run) (signs_of run) (set marks cut.number b) in
+        subst P e more
+    go (Some d) (same, one) =
+        let P : ℕ → Type 0 = Marked (run_of run) (signs_of run) (set marks cut.number b) in
+        (same ∙ old.0, subst P (sym one) more)
