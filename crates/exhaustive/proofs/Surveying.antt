@@ -183,8 +183,8 @@ module _ (r : Run) (done : Done r) (k : Counts) (inside : Below r (counts_of k) 
 
 -- what holds of none yet holds where the turn is the first cut's
 pub at_begin : (A : Type 0) (run : code.Run) (Q : ℕ → Type 0) (o : Option held.Cut) → IsSomeAnd o (λ cut. (cut.run.now ≡ run) × (cut.number ≡ 0)) → Q 0 → MatchOption o A (λ cut. (cut.run.now ≡ run) × Q cut.number)
-at_begin A run Q None never none = absurd never
-at_begin A run Q (Some cut) (same, first) none = (same, subst Q (sym first) none)
+at_begin A run Q None never begun = absurd never
+at_begin A run Q (Some cut) (same, first) begun = (same, subst Q (sym first) begun)
 
 -- lower in each machine's count, or alike
 lower_rank : (r : Run) (c d : Cut) → Below r c r.did → rank_of r c ≤ rank_of r (lower c d) → Below r c d

@@ -10,12 +10,15 @@ use moments::moment::is_moment;
 use std::alloc::{AllocError, Global};
 
 impl Cut<'_> {
-    // Is some cut marked that has one doing less behind it. A doing of a machine makes as much of a cut's number as the machines
-    // below have cuts between them.
+    // Is the cut the first, or is some cut marked that has one doing less behind it. A doing of a machine makes as much of a cut's
+    // number as the machines below have cuts between them.
     fn came(&self, marks: &[bool]) -> bool
         requires long { length marks.now ≡ cuts_of (run_of self.now.run.now) }
         ensures { Decides result (Came (run_of self.now.run.now) marks.now (counts_of self.now.counts) self.now.number) }
     {
+        if self.number == 0 {
+            return true;
+        }
         let mut weight = 1;
         for (machine, &did) in self.run.did.of[..self.run.count].iter().enumerate() {
             if 0 < self.counts.of[machine] && marks[self.number - weight] {
@@ -32,13 +35,7 @@ impl Cut<'_> {
         requires marked { Marked (run_of self.now.run.now) (signs_of self.now.run.now) marks.now self.now.number }
         ensures { Decides result (ComesTo (run_of self.now.run.now) (signs_of self.now.run.now) (counts_of self.now.counts)) }
     {
-        if !is_moment(self.run, self.counts) {
-            return false;
-        }
-        if self.all_yes() {
-            return false;
-        }
-        self.number == 0 || self.came(marks)
+        self.came(marks) && !self.all_yes() && is_moment(self.run, self.counts)
     }
 }
 
