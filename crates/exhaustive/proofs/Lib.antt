@@ -1,4 +1,5 @@
 mod Ranks
+mod Adding
 mod Counted
 mod Counting
 mod Surveying

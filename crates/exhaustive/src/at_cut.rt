@@ -18,10 +18,8 @@ impl Cut<'_> {
     pub(crate) fn sum(&self) -> u64
         ensures { result ≡ total (run_of self.now.run.now) (amounts_of self.now.run.now) (counts_of self.now.counts) }
     {
-        let mut sum = 0;
-        for (machine, &done) in self.counts.of[..self.run.count].iter().enumerate() {
-            sum += u64::from(self.run.amount(machine, done));
-        }
-        sum
+        (0..self.run.count)
+            .map(|machine| u64::from(self.run.amount(machine, self.counts.of[machine])))
+            .sum()
     }
 }
