@@ -17,7 +17,7 @@ use Rattle.order.proofs.Recorded.{recorded_run}
 use Rattle.moments.proofs.Agreeing.{Agree, signs_agree, amounts_agree, agree_back, first_agree, may_agree, must_agree, least_agree, most_agree, total_agree}
 use Rattle.exhaustive.specs.declared.findings.Findings.{Findings}
 use Rattle.exhaustive.specs.declared.cut.Cuts as held
-use Rattle.exhaustive.specs.Survey.{Surveyed}
+use Rattle.exhaustive.specs.Survey.{SurveyedOf}
 use Rattle.exhaustive.specs.Looked.{Found, LookedAs, LookedAt, Always}
 use Rattle.exhaustive.proofs.Counting.{one_number}
 use Rattle.exhaustive.proofs.Surveying.{count_all, first_all, least_all, most_all}
@@ -32,12 +32,12 @@ must_unless r done s false told = (λ _. must_be r done s (λ end. both_ways fal
 
 -- what was found at all cuts
 pub found_all : (cuts : held.Cuts) (f : Findings) (avoided : Bool) → Decides avoided (ComesTo (run_of cuts.run.now) (signs_of cuts.run.now) (counts_of cuts.run.now.did)) → f.must ≡ not avoided
-    → Surveyed (run_of cuts.run.now) (signs_of cuts.run.now) (amounts_of cuts.run.now) cuts.count f → LookedAs (run_of cuts.run.now) (signs_of cuts.run.now) (amounts_of cuts.run.now) (Some f)
+    → SurveyedOf cuts.run.now cuts.count f → LookedAs (run_of cuts.run.now) (signs_of cuts.run.now) (amounts_of cuts.run.now) (Some f)
 found_all cuts f avoided told must all =
     let run = cuts.run.now in
     let r = run_of run in
     let s = signs_of run in
-    let P : ℕ → Type 0 = λ n. Surveyed r s (amounts_of run) n f in
+    let P : ℕ → Type 0 = λ n. SurveyedOf run n f in
     let M : Bool → Type 0 = λ b. Decides b (Must r s) in
     let seen = subst P cuts.counted all in (
       omega (arith, cuts.counted, cuts.few),

@@ -1,5 +1,5 @@
 -- Marks on cuts, one after the other.
-use Rattle.std.proofs.Common.{◌≡◌, ℕ, ◌+◌, ◌-◌, ◌<◌, Bool, false, List, length, get_or, set, Some, None, Decides, Option, MatchOption, sym, ap, ◌∙◌, subst, inl, inr, arith}
+use Rattle.std.proofs.Common.{◌≡◌, ℕ, ◌+◌, ◌-◌, ◌<◌, Bool, false, List, length, get_or, set, Some, Decides, Option, sym, ap, ◌∙◌, subst, inl, inr, arith}
 use Rattle.std.proofs.lemmas.List.{get_or-set_same, get_or-set_other}
 use Rattle.std.proofs.lemmas.Bool.{cases_lt}
 use Rattle.std.proofs.lemmas.Option.{MatchOption-at_some}
@@ -16,7 +16,8 @@ use Rattle.exhaustive.specs.Counter.{weight, cuts_of, rank_of}
 use Rattle.exhaustive.specs.Marks.{Marked, Came}
 use Rattle.exhaustive.specs.Turns.{Follows}
 use Rattle.exhaustive.specs.declared.cut.Cut as held
-use Rattle.exhaustive.proofs.Ranks.{rank_next, rank_once, rank_none, rank_zero, weight_some, cut_of}
+use Rattle.exhaustive.proofs.Ranks.{rank_next, rank_once, rank_none, rank_zero, weight_some}
+use Rattle.exhaustive.proofs.Turning.{AtTurn, cut_of, at_next}
 
 -- the number of the cut with one doing less
 pub rank_back : (r : Run) (c : Cut) (i : ℕ) → i < r.count → 0 < c i → rank_of r c ≡ rank_of r (back c i) + weight r.did i
@@ -58,37 +59,20 @@ module _ (r : Run) (done : Done r) (s : Says) (marks : List Bool) (c : Cut) (ins
             subst P (sym is) (λ t. comes_alike r done s d same (told.0 t), λ x. told.1 (comes_alike r done s c (λ i k. sym (same i k)) x))
       ]
 
--- marks up to the next cut that has its turn, or to the end
-abbrev pub MarkedTo : code.Run → List Bool → Option held.Cut → Type 0
-MarkedTo run marks o = MatchOption o (Marked (run_of run) (signs_of run) marks (cuts_of (run_of run))) (λ cut. (cut.run.now ≡ run) × Marked (run_of run) (signs_of run) marks cut.number)
-
--- one turn more
-pub mark_turn : (run : code.Run) (marks : List Bool) (now : Option held.Cut) (cut : held.Cut) (next : Option held.Cut) (b : Bool) → length marks ≡ cuts_of (run_of run) → now ≡ Some cut → Follows cut next
-    → Decides b (ComesTo (run_of cut.run.now) (signs_of cut.run.now) (counts_of cut.counts)) → MarkedTo run marks now → MarkedTo run (set marks cut.number b) next
-mark_turn run marks now cut next b long is follows told marked = go next follows
-  where
-    old : (cut.run.now ≡ run) × Marked (run_of run) (signs_of run) marks cut.number
-    old = MatchOption-at_some _ _ cut is marked
-
-    more : Marked (run_of run) (signs_of run) (set marks cut.number b) (cut.number + 1)
-    more =
-        let r = run_of run in
-        let s = signs_of run in
-        let c = counts_of cut.counts in
-        let of = cut_of run cut old.0 in
-        let P : ℕ → Type 0 = λ n. Marked r s marks n in
-        let Q : ℕ → Type 0 = λ n. Marked r s (set marks n b) (n + 1) in
-        let R : code.Run → Type 0 = λ x. Decides b (ComesTo (run_of x) (signs_of x) c) in
-        subst Q (sym of.numbered) (mark_more r (linked run).range s marks c of.inside (subst P of.numbered old.1) b (omega (arith, of.numbered, of.within, long)) (subst R old.0 told))
-
-    go : (o : Option held.Cut) → Follows cut o → MarkedTo run (set marks cut.number b) o
-    go None last =
-        let e : cut.number + 1 ≡ cuts_of (run_of run) = last ∙ ap (λ (x : code.Run). cuts_of (run_of x)) old.0 in
-        let P : ℕ → Type 0 = Marked (run_of run) (signs_of run) (set marks cut.number b) in
-        subst P e more
-    go (Some d) (same, one) =
-        let P : ℕ → Type 0 = Marked (run_of run) (signs_of run) (set marks cut.number b) in
-        (same ∙ old.0, subst P (sym one) more)
+-- the marks at the next turn
+pub mark_turn : (run : code.Run) (count : ℕ) (marks : List Bool) (now : Option held.Cut) (cut : held.Cut) (next : Option held.Cut) (b : Bool) → count ≡ cuts_of (run_of run) → length marks ≡ count → now ≡ Some cut → Follows cut next
+    → Decides b (ComesTo (run_of cut.run.now) (signs_of cut.run.now) (counts_of cut.counts)) → AtTurn run count (Marked (run_of run) (signs_of run) marks) now → AtTurn run count (Marked (run_of run) (signs_of run) (set marks cut.number b)) next
+mark_turn run count marks now cut next b all long is follows told marked =
+    let r = run_of run in
+    let s = signs_of run in
+    let c = counts_of cut.counts in
+    let old : (cut.run.now ≡ run) × Marked r s marks cut.number = MatchOption-at_some _ _ cut is marked in
+    let of = cut_of run cut old.0 in
+    let P : ℕ → Type 0 = Marked r s marks in
+    let Q : ℕ → Type 0 = λ n. Marked r s (set marks n b) (n + 1) in
+    let R : code.Run → Type 0 = λ x. Decides b (ComesTo (run_of x) (signs_of x) c) in
+    let more : Marked r s (set marks cut.number b) (cut.number + 1) = subst Q (sym of.numbered) (mark_more r (linked run).range s marks c of.inside (subst P of.numbered old.1) b (omega (arith, of.numbered, of.within, long, all)) (subst R old.0 told)) in
+    at_next run count (Marked r s (set marks cut.number b)) cut next all old.0 follows more
 
 -- what the program looks at decides whether the run can have come to a cut
 module _ (cut : held.Cut) (marks : List Bool) (marked : Marked (run_of cut.run.now) (signs_of cut.run.now) marks cut.number) where

@@ -1,13 +1,10 @@
 -- A cut's number among all.
-use Rattle.std.proofs.Common.{◌≡◌, ℕ, zero, suc, ◌+◌, ◌*◌, ◌/◌, ◌%◌, ◌<◌, ◌≤◌, sym, refl, ap, ◌∙◌, subst, inl, inr, mul-le-mul_right, mul_comm, add-mul, mul-pos, one-mul, add-one, arith}
+use Rattle.std.proofs.Common.{◌≡◌, ℕ, zero, suc, ◌+◌, ◌*◌, ◌/◌, ◌%◌, ◌<◌, ◌≤◌, sym, refl, ap, ◌∙◌, inl, inr, mul-le-mul_right, mul_comm, add-mul, mul-pos, one-mul, add-one, arith}
 use lib.Arith.{digits_lt, digits_div, digits_mod}
 use Rattle.std.proofs.lemmas.Bool.{cases_eq, cases_order}
 use Rattle.runs.specs.Run.{Run}
-use Rattle.runs.specs.Model.{run_of, counts_of}
 use Rattle.runs.specs.Moment.{Cut}
 use Rattle.moments.specs.Cuts.{Below, nothing}
-use Rattle.runs.specs.declared.run.Run as code
-use Rattle.exhaustive.specs.declared.cut.Cut as held
 use Rattle.exhaustive.specs.Counter.{weight, rank, cuts_of, rank_of, LowestLeft, Numbering}
 
 -- one more of what counts so much
@@ -133,19 +130,6 @@ module _ (r : Run) (c d : Cut) (i : ℕ) (inside : Below r c r.did) (low : Lowes
 -- the last one
 pub last_rank : (r : Run) (c : Cut) → Below r c r.did → Below r r.did c → rank_of r c + 1 ≡ cuts_of r
 last_rank r c inside ends = rank_ends r.did r.count c (λ k h. omega (arith, inside k h, ends k h))
-
--- a cut as the program has it, in words of its run
-pub record CutOf (run : code.Run) (cut : held.Cut) : Type 0 where
-  pub inside : Below (run_of run) (counts_of cut.counts) (counts_of run.did)
-  pub numbered : cut.number ≡ rank_of (run_of run) (counts_of cut.counts)
-  pub few : cuts_of (run_of run) ≤ 1000000
-  pub within : cut.number < cuts_of (run_of run)
-
-pub cut_of : (run : code.Run) (cut : held.Cut) → cut.run.now ≡ run → CutOf run cut
-cut_of run cut e =
-    let r = run_of cut.run.now in
-    let within : cut.number < cuts_of r = omega (arith, cut.numbered, rank_within r.did r.count (counts_of cut.counts) cut.inside) in
-    subst (λ (x : code.Run). CutOf x cut) e (record { inside = cut.inside; numbered = cut.numbered; few = cut.few; within = within })
 
 pub numbering : (r : Run) → Numbering r
 numbering r = record {

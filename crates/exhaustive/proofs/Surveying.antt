@@ -1,9 +1,8 @@
 -- One cut more is seen; and what all of them come to.
-use Rattle.std.proofs.Common.{◌≡◌, ℕ, ◌+◌, ◌<◌, ◌≤◌, min, Bool, true, false, cond, ltb, ◌⊎◌, Some, None, Decides, Option, MatchOption, IsSomeAnd, sym, refl, ap, ◌∙◌, subst, inl, inr, arith}
+use Rattle.std.proofs.Common.{◌≡◌, ℕ, ◌+◌, ◌<◌, ◌≤◌, min, Bool, true, false, cond, ltb, ◌⊎◌, Some, None, Decides, Option, sym, refl, ap, ◌∙◌, subst, inl, inr, arith}
 use Rattle.std.specs.Bool.{then_some}
 use Rattle.std.specs.Option.{option_or}
 use Rattle.std.proofs.lemmas.Bool.{cases_lt, both_ways, ltb-true, ltb-false}
-use Rattle.runs.specs.declared.run.Run as code
 use Rattle.runs.specs.Run.{Run, Done}
 use Rattle.runs.specs.Moment.{Cut, Moment}
 use Rattle.runs.specs.declared.counts.Counts.{Counts}
@@ -14,7 +13,6 @@ use Rattle.moments.specs.Amounts.{Much, total, Least, Most}
 use Rattle.moments.proofs.Laws.{lattice, moment_alike, moment_first}
 use Rattle.moments.proofs.Totals.{sum_alike, sum_none, modular}
 use Rattle.moments.proofs.Avoiding.{all_alike}
-use Rattle.exhaustive.specs.declared.cut.Cut as held
 use Rattle.exhaustive.specs.declared.seen.Extreme.{Extreme}
 use Rattle.exhaustive.specs.declared.findings.Findings.{Findings}
 use Rattle.exhaustive.specs.Counter.{cuts_of, rank_of}
@@ -180,11 +178,6 @@ module _ (r : Run) (done : Done r) (k : Counts) (inside : Below r (counts_of k) 
         least_sum = is;
         most_sum = is;
       }
-
--- what holds of none yet holds where the turn is the first cut's
-pub at_begin : (A : Type 0) (run : code.Run) (Q : ℕ → Type 0) (o : Option held.Cut) → IsSomeAnd o (λ cut. (cut.run.now ≡ run) × (cut.number ≡ 0)) → Q 0 → MatchOption o A (λ cut. (cut.run.now ≡ run) × Q cut.number)
-at_begin A run Q None never begun = absurd never
-at_begin A run Q (Some cut) (same, first) begun = (same, subst Q (sym first) begun)
 
 -- lower in each machine's count, or alike
 lower_rank : (r : Run) (c d : Cut) → Below r c r.did → rank_of r c ≤ rank_of r (lower c d) → Below r c d

@@ -1,10 +1,11 @@
 -- What has been seen of the cuts so far.
 -- Assumes nothing.
 use Rattle.std.specs.Prelude.{◌≡◌, ℕ, ◌+◌, ◌<◌, ◌≤◌, ◌⊎◌, Some, None, Option}
+use Rattle.runs.specs.declared.run.Run as code
 use Rattle.runs.specs.Run.{Run}
 use Rattle.runs.specs.Moment.{Cut, Moment}
 use Rattle.runs.specs.declared.counts.Counts.{Counts}
-use Rattle.runs.specs.Model.{counts_of}
+use Rattle.runs.specs.Model.{run_of, signs_of, amounts_of, counts_of}
 use Rattle.moments.specs.Signs.{Says, AllSay}
 use Rattle.moments.specs.Amounts.{Much, total}
 use Rattle.exhaustive.specs.declared.findings.Findings.{Findings}
@@ -42,3 +43,7 @@ pub record Surveyed (r : Run) (s : Says) (w : Much) (n : ℕ) (x : Findings) : T
   pub most : BestAmong r none w n (counts_of x.most.at)
   pub least_sum : x.least.sum ≡ total r w (counts_of x.least.at)
   pub most_sum : x.most.sum ≡ total r w (counts_of x.most.at)
+
+-- the same of a run as the program has it
+abbrev pub SurveyedOf : code.Run → ℕ → Findings → Type 0
+SurveyedOf run = Surveyed (run_of run) (signs_of run) (amounts_of run)

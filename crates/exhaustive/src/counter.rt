@@ -1,6 +1,7 @@
 // Cuts one after the other.
-ghost use Rattle.std.specs.Prelude.{◌≡◌, ℕ, ◌+◌, ◌<◌, ◌≤◌, IsSomeAnd, MatchOption};
+ghost use Rattle.std.specs.Prelude.{◌≡◌, ◌+◌, ◌<◌, IsSomeAnd, MatchOption};
 ghost use Rattle.runs.specs.Model.{run_of, counts_of};
+ghost use Rattle.moments.specs.Cuts.{Below};
 ghost use Rattle.exhaustive.specs.Counter.{cuts_of, LowestLeft, Numbering};
 
 use crate::cut::{Cut, Cuts, CutsFrom};
@@ -50,7 +51,7 @@ impl<'a> Cuts<'a> {
 impl<'a> Cut<'a> {
     // The lowest machine that has a doing left.
     fn lowest_left(&self) -> Option<usize>
-        ensures { MatchOption result ((k : ℕ) → k < self.now.run.now.count → counts_of self.now.run.now.did k ≤ counts_of self.now.counts k) (LowestLeft (run_of self.now.run.now) (counts_of self.now.counts)) }
+        ensures { MatchOption result (Below (run_of self.now.run.now) (counts_of self.now.run.now.did) (counts_of self.now.counts)) (LowestLeft (run_of self.now.run.now) (counts_of self.now.counts)) }
     {
         (0..self.run.count).find(|&machine| self.counts.of[machine] < self.run.did.of[machine])
     }

@@ -46,8 +46,7 @@ impl Cuts<'_> {
     {
         let mut marks = vec![in heap; false; self.count]?;
         for cut in self.iter() {
-            let comes = cut.comes(&marks);
-            marks[cut.number] = comes;
+            marks[cut.number] = cut.comes(&marks);
         }
         Ok(marks[self.count - 1])
     }

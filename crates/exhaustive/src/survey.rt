@@ -1,7 +1,6 @@
 // A pass over all cuts: how many moments there are, the first of all yes, the least and the most.
 ghost use Rattle.std.specs.Prelude.{◌≡◌, ◌+◌, Bool, if◌then◌else◌};
-ghost use Rattle.runs.specs.Model.{run_of, signs_of, amounts_of};
-ghost use Rattle.exhaustive.specs.Survey.{Surveyed};
+ghost use Rattle.exhaustive.specs.Survey.{SurveyedOf};
 
 use crate::cut::{Cut, Cuts};
 use crate::findings::Findings;
@@ -25,8 +24,8 @@ impl Extreme {
 impl Findings {
     // One cut more.
     fn with(self, cut: &Cut) -> Findings
-        requires { Surveyed (run_of cut.now.run.now) (signs_of cut.now.run.now) (amounts_of cut.now.run.now) cut.now.number self }
-        ensures seen { Surveyed (run_of cut.now.run.now) (signs_of cut.now.run.now) (amounts_of cut.now.run.now) (cut.now.number + 1) result }
+        requires { SurveyedOf cut.now.run.now cut.now.number self }
+        ensures seen { SurveyedOf cut.now.run.now (cut.now.number + 1) result }
         ensures must { result.must ≡ self.must }
     {
         if !is_moment(cut.run, cut.counts) {
@@ -49,7 +48,7 @@ impl Findings {
 impl Cuts<'_> {
     // All of them, where it is known whether every way has a moment of all yes.
     pub(crate) fn survey(&self, must: bool) -> Findings
-        ensures seen { Surveyed (run_of self.now.run.now) (signs_of self.now.run.now) (amounts_of self.now.run.now) self.now.count result }
+        ensures seen { SurveyedOf self.now.run.now self.now.count result }
         ensures must { result.must ≡ must }
     {
         let first = self.first();

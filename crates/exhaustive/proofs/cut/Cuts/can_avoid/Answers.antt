@@ -3,7 +3,7 @@ use Rattle.std.proofs.lemmas.List.{get_or_read}
 use Rattle.std.proofs.lemmas.Option.{MatchOption-at_none}
 use Rattle.runs.specs.Model.{run_of, signs_of}
 use Rattle.moments.specs.Signs.{ComesTo}
-use Rattle.exhaustive.specs.Counter.{cuts_of, rank_of}
+use Rattle.exhaustive.specs.Counter.{rank_of}
 use Rattle.exhaustive.specs.Marks.{Marked}
 use Rattle.exhaustive.proofs.Ranks.{rank_last, weight_some}
 use Rattle.exhaustive.proofs.Marking.{mark_turn}
@@ -15,7 +15,7 @@ loop-cut-preserved c =
     let inv = c.loop-cut.invariant in
     let steps = c.in-Some.ensures.steps in
     record {
-      marked = mark_turn self.run.now (vec_items c.loop-cut.marks) c.loop-cut.cut-iterator.next c.in-Some.cut c.next.new.self.next c.comes-comes.result (omega (arith, inv.long, c.loop-cut.marks.ok.0, self.counted)) steps.0 steps.1 c.comes-comes.ensures inv.marked;
+      marked = mark_turn self.run.now self.count (vec_items c.loop-cut.marks) c.loop-cut.cut-iterator.next c.in-Some.cut c.next.new.self.next c.comes.result self.counted (omega (arith, inv.long, c.loop-cut.marks.ok.0)) steps.0 steps.1 c.comes.ensures inv.marked;
       long = inv.long;
     }
 
@@ -32,7 +32,7 @@ returns c =
     let r = run_of run in
     let inv = c.loop-cut.invariant in
     let marks = vec_items c.loop-cut.marks in
-    let marked : Marked r (signs_of run) marks (cuts_of r) = MatchOption-at_none _ _ c.in-None.ensures.steps.0 inv.marked in
+    let marked : Marked r (signs_of run) marks self.count = MatchOption-at_none _ _ c.in-None.ensures.steps.0 inv.marked in
     let last = rank_last r.did r.count in
     let at : rank_of r r.did ≡ self.count - 1 = omega (arith, last, self.counted) in
     let is : c.index.result.now ≡ get_or marks (self.count - 1) false = get_or_read marks (self.count - 1) c.index.result.now (omega (arith, last, self.counted, inv.long, c.loop-cut.marks.ok.0)) c.index.ensures false in

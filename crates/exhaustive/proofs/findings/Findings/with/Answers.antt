@@ -3,7 +3,7 @@ use Rattle.std.specs.Option.{option_or}
 use Rattle.std.proofs.lemmas.Bool.{both_ways}
 use Rattle.runs.specs.Model.{run_of, signs_of, amounts_of}
 use Rattle.runs.proofs.Linked.{linked}
-use Rattle.exhaustive.proofs.Ranks.{cut_of}
+use Rattle.exhaustive.proofs.Turning.{cut_of}
 use Rattle.exhaustive.proofs.Surveying.{one_same, one_more}
 use Rattle.exhaustive.proofs.findings.Findings.with.Goals as goal
 
