@@ -3,7 +3,7 @@
 
 use cli::refusals::tell_refusal;
 use cli::{beginnings, words};
-use exhaustive::findings::{Findings, Looked, Replied};
+use exhaustive::findings::{Findings, Replied};
 use exhaustive::looking::look_at_files;
 use exhaustive::seen::Extreme;
 use runs::counts::Counts;
@@ -61,15 +61,17 @@ fn tell_findings(rt: &HostRuntime, machines: usize, found: Findings) -> anyhow::
     Ok(End::Told)
 }
 
-fn tell_looked(rt: &HostRuntime, machines: usize, looked: Looked) -> anyhow::Result<End> {
-    match looked {
-        Looked::All(found) => tell_findings(rt, machines, found),
-        Looked::TooMany => {
-            println!(rt; "too many cuts")?;
-            println!(rt; "The run has more than 1,000,000 cuts, and this program looks at each.")?;
-            Ok(End::TooMany)
-        }
-    }
+fn tell_looked(
+    rt: &HostRuntime,
+    machines: usize,
+    looked: Option<Findings>,
+) -> anyhow::Result<End> {
+    let Some(found) = looked else {
+        println!(rt; "too many cuts")?;
+        println!(rt; "The run has more than 1,000,000 cuts, and this program looks at each.")?;
+        return Ok(End::TooMany);
+    };
+    tell_findings(rt, machines, found)
 }
 
 fn all(rt: &HostRuntime, names: &[String]) -> anyhow::Result<End> {

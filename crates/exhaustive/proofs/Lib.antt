@@ -1,4 +1,7 @@
 mod Ranks
+mod Adding
+mod Counted
+mod Turning
 mod Counting
 mod Surveying
 mod Marking

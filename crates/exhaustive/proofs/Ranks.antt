@@ -1,11 +1,11 @@
 -- A cut's number among all.
-use Rattle.std.proofs.Common.{◌≡◌, ℕ, zero, suc, ◌+◌, ◌*◌, ◌/◌, ◌%◌, ◌<◌, ◌≤◌, sym, refl, ap, ◌∙◌, subst, inl, inr, mul-le-mul_right, mul_comm, add-mul, mul-pos, one-mul, add-one, arith}
+use Rattle.std.proofs.Common.{◌≡◌, ℕ, zero, suc, ◌+◌, ◌*◌, ◌/◌, ◌%◌, ◌<◌, ◌≤◌, sym, refl, ap, ◌∙◌, inl, inr, mul-le-mul_right, mul_comm, add-mul, mul-pos, one-mul, add-one, arith}
 use lib.Arith.{digits_lt, digits_div, digits_mod}
-use Rattle.std.proofs.lemmas.Bool.{cases_eq}
+use Rattle.std.proofs.lemmas.Bool.{cases_eq, cases_order}
 use Rattle.runs.specs.Run.{Run}
 use Rattle.runs.specs.Moment.{Cut}
-use Rattle.moments.specs.Cuts.{nothing}
-use Rattle.exhaustive.specs.Counter.{weight, rank, Numbering}
+use Rattle.moments.specs.Cuts.{Below, nothing}
+use Rattle.exhaustive.specs.Counter.{weight, rank, cuts_of, rank_of, LowestLeft, Numbering}
 
 -- one more of what counts so much
 one_more : (n w : ℕ) → (n + 1) * w ≡ n * w + w
@@ -21,12 +21,15 @@ weight_some did zero = omega arith
 weight_some did (suc n) = mul-pos (omega arith) (weight_some did n)
 
 -- as the program multiplies it up
-pub weight_more : (did : Cut) (n : ℕ) → weight did (n + 1) ≡ weight did n * (did n + 1)
+weight_more : (did : Cut) (n : ℕ) → weight did (n + 1) ≡ weight did n * (did n + 1)
 unfolding weight
 weight_more did n = ap (weight did) (add-one n) ∙ more did n
   where
     more : (did : Cut) (n : ℕ) → weight did (suc n) ≡ weight did n * (did n + 1)
     more did n = mul_comm (did n + 1) (weight did n)
+
+pub weight_step : (did : Cut) (n w m : ℕ) → w ≡ weight did n → m ≡ did n → w * (m + 1) ≡ weight did (n + 1)
+weight_step did n w m is here = ap (λ (x : ℕ). x * (m + 1)) is ∙ ap (λ (x : ℕ). weight did n * (x + 1)) here ∙ sym (weight_more did n)
 
 -- more machines have no fewer cuts
 pub weight_up : (did : Cut) (m n : ℕ) → m ≤ n → weight did m ≤ weight did n
@@ -102,18 +105,31 @@ rank_carry did (suc n) c d i lt full one below above =
           omega (arith, ap (λ (x : ℕ). x * w) (above n (omega arith)), rank_carry did n c d i (omega arith) full one below above)
     ]
 
--- one more machine that is at its end
-pub rank_full : (did : Cut) (i : ℕ) (c : Cut) → rank did i c + 1 ≡ weight did i → c i ≡ did i → rank did (i + 1) c + 1 ≡ weight did (i + 1)
-unfolding rank
-rank_full did i c full here = subst (λ (n : ℕ). rank did n c + 1 ≡ weight did n) (sym (add-one i)) more
-  where
-    more : rank did (suc i) c + 1 ≡ weight did (suc i)
-    more = omega (arith, weight_suc did i, full, ap (λ (x : ℕ). x * weight did i) here)
-
 pub rank_last : (did : Cut) (n : ℕ) → rank did n did + 1 ≡ weight did n
 unfolding rank weight
 rank_last did zero = omega arith
 rank_last did (suc n) = omega (arith, rank_last did n, one_more (did n) (weight did n))
+
+-- machines that are all at their ends
+pub rank_ends : (did : Cut) (n : ℕ) (c : Cut) → ((i : ℕ) → i < n → c i ≡ did i) → rank did n c + 1 ≡ weight did n
+rank_ends did n c ends = omega (arith, rank_alike did n c did ends, rank_last did n)
+
+-- the cut after c: the lowest machine that has a doing left goes on, and those below begin anew
+module _ (r : Run) (c d : Cut) (i : ℕ) (inside : Below r c r.did) (low : LowestLeft r c i) (here : d i ≡ c i + 1) (anew : (k : ℕ) → k < i → d k ≡ 0) (still : (k : ℕ) → i < k → d k ≡ c k) where
+  pub after_inside : Below r d r.did
+  after_inside k h =
+      elim (cases_order k i) [
+        | inl e ↦ omega (arith, ap d e, ap r.did e, here, low.left)
+        | inr (inl under) ↦ omega (arith, anew k under)
+        | inr (inr over) ↦ omega (arith, still k over, inside k h)
+      ]
+
+  pub after_rank : rank_of r d ≡ rank_of r c + 1
+  after_rank = rank_carry r.did r.count c d i low.inside (rank_ends r.did i c (λ k h. omega (arith, low.ends k h, inside k (omega (arith, low.inside))))) here anew still
+
+-- the last one
+pub last_rank : (r : Run) (c : Cut) → Below r c r.did → Below r r.did c → rank_of r c + 1 ≡ cuts_of r
+last_rank r c inside ends = rank_ends r.did r.count c (λ k h. omega (arith, inside k h, ends k h))
 
 pub numbering : (r : Run) → Numbering r
 numbering r = record {

@@ -1,22 +1,25 @@
 -- One cut more is seen; and what all of them come to.
 use Rattle.std.proofs.Common.{◌≡◌, ℕ, ◌+◌, ◌<◌, ◌≤◌, min, Bool, true, false, cond, ltb, ◌⊎◌, Some, None, Decides, Option, sym, refl, ap, ◌∙◌, subst, inl, inr, arith}
-use Rattle.std.proofs.lemmas.Bool.{cases_lt, ltb-true, ltb-false}
+use Rattle.std.specs.Bool.{then_some}
+use Rattle.std.specs.Option.{option_or}
+use Rattle.std.proofs.lemmas.Bool.{cases_lt, both_ways, ltb-true, ltb-false}
 use Rattle.runs.specs.Run.{Run, Done}
 use Rattle.runs.specs.Moment.{Cut, Moment}
 use Rattle.runs.specs.declared.counts.Counts.{Counts}
 use Rattle.runs.specs.Model.{counts_of}
-use Rattle.moments.specs.Cuts.{Alike, Below, lower, upper}
+use Rattle.moments.specs.Cuts.{Alike, Below, nothing, lower, upper}
 use Rattle.moments.specs.Signs.{Says, AllSay, FirstOrNone}
 use Rattle.moments.specs.Amounts.{Much, total, Least, Most}
-use Rattle.moments.proofs.Laws.{lattice, moment_alike}
+use Rattle.moments.proofs.Laws.{lattice, moment_alike, moment_first}
 use Rattle.moments.proofs.Totals.{sum_alike, sum_none, modular}
 use Rattle.moments.proofs.Avoiding.{all_alike}
 use Rattle.exhaustive.specs.declared.seen.Extreme.{Extreme}
+use Rattle.exhaustive.specs.declared.findings.Findings.{Findings}
 use Rattle.exhaustive.specs.Counter.{cuts_of, rank_of}
 use Rattle.exhaustive.specs.HowMany.{HowMany}
-use Rattle.exhaustive.specs.Survey.{Among, FirstAmong, Ahead, BestAmong, none, first_of}
-use Rattle.exhaustive.proofs.Ranks.{rank_within, rank_once, rank_alike, rank_up}
-use Rattle.exhaustive.proofs.Counting.{how_many_same, how_many_more}
+use Rattle.exhaustive.specs.Survey.{Among, FirstAmong, Ahead, BestAmong, none, Surveyed}
+use Rattle.exhaustive.proofs.Ranks.{rank_within, rank_once, rank_alike, rank_up, rank_zero}
+use Rattle.exhaustive.proofs.Counting.{how_many_none, how_many_same, how_many_more}
 
 -- a moment lies among all cuts
 pub among_all : (r : Run) (d : Cut) → Moment r d → Among r (cuts_of r) d
@@ -51,7 +54,8 @@ module _ (r : Run) (done : Done r) (c : Cut) (inside : Below r c r.did) where
   first_same s None never h = λ d a. h d (among_same never d a)
   first_same s (Some x) never h = ((h.0.0, omega (arith, h.0.1)), h.1, h.2)
 
-  pub first_more : (s : Says) (o : Option Counts) (k : Counts) (b : Bool) → counts_of k ≡ c → Moment r c → Decides b (AllSay r s c) → FirstAmong r s here o → FirstAmong r s (here + 1) (first_of o k b)
+  -- one that is there stays, and where there is none yet this one becomes it if all say yes
+  pub first_more : (s : Says) (o : Option Counts) (k : Counts) (b : Bool) → counts_of k ≡ c → Moment r c → Decides b (AllSay r s c) → FirstAmong r s here o → FirstAmong r s (here + 1) (option_or o (then_some b k))
   first_more s (Some x) k b is m told h = ((h.0.0, omega (arith, h.0.1)), h.1, h.2)
   first_more s None k true is m told h =
       let P : Cut → Type 0 = λ x. Among r (here + 1) x × AllSay r s x × ((d : Cut) → Moment r d → AllSay r s d → rank_of r d < rank_of r x → ⊥) in
@@ -59,7 +63,7 @@ module _ (r : Run) (done : Done r) (c : Cut) (inside : Below r c r.did) where
   first_more s None k false is m told h = λ d a all.
       elim (among_more d a) [
         | inl old ↦ h d old all
-        | inr same ↦ let e : ◌≡◌ {A = Bool} false true = told.1 (all_alike r s c d same all) in omega (arith, ap (λ (x : Bool). cond {A = ℕ} x 0 1) e)
+        | inr same ↦ absurd (both_ways false refl (told.1 (all_alike r s c d same all)))
       ]
 
   module _ (v w : Much) where
@@ -92,32 +96,88 @@ module _ (r : Run) (done : Done r) (c : Cut) (inside : Below r c r.did) where
     }
 
 -- the better of what was there and a new moment, as a test tells it
-module _ (r : Run) (done : Done r) (k : Counts) (inside : Below r (counts_of k) r.did) (m : Moment r (counts_of k)) where
-  better : (v w t : Much) (x z : Extreme) (s : ℕ) (b : Bool) → z ≡ cond b (record { sum = s; at = k }) x
+module _ (r : Run) (done : Done r) (k : Counts) (inside : Below r (counts_of k) r.did) where
+  better : Moment r (counts_of k) → (v w t : Much) (x z : Extreme) (s : ℕ) (b : Bool) → z ≡ cond b (record { sum = s; at = k }) x
       → (b ≡ true → total r v (counts_of k) + total r w (counts_of x.at) < total r v (counts_of x.at) + total r w (counts_of k))
       → (b ≡ false → total r v (counts_of x.at) + total r w (counts_of k) ≤ total r v (counts_of k) + total r w (counts_of x.at))
       → s ≡ total r t (counts_of k) → x.sum ≡ total r t (counts_of x.at) → BestAmong r v w (rank_of r (counts_of k)) (counts_of x.at)
       → BestAmong r v w (rank_of r (counts_of k) + 1) (counts_of z.at) × (z.sum ≡ total r t (counts_of z.at))
-  better v w t x z s true is less more new old best =
+  better m v w t x z s true is less more new old best =
       let P : Extreme → Type 0 = λ y. BestAmong r v w (rank_of r (counts_of k) + 1) (counts_of y.at) × (y.sum ≡ total r t (counts_of y.at)) in
       subst P (sym is) (best_take r done (counts_of k) inside v w (counts_of x.at) (less refl) m best, new)
-  better v w t x z s false is less more new old best =
+  better m v w t x z s false is less more new old best =
       let P : Extreme → Type 0 = λ y. BestAmong r v w (rank_of r (counts_of k) + 1) (counts_of y.at) × (y.sum ≡ total r t (counts_of y.at)) in
       subst P (sym is) (best_keep r done (counts_of k) inside v w (counts_of x.at) (more refl) best, old)
 
-  pub lesser : (w : Much) (x z : Extreme) (s : ℕ) → z ≡ cond (ltb s x.sum) (record { sum = s; at = k }) x → s ≡ total r w (counts_of k) → x.sum ≡ total r w (counts_of x.at) → BestAmong r w none (rank_of r (counts_of k)) (counts_of x.at)
+  pub lesser : Moment r (counts_of k) → (w : Much) (x z : Extreme) (s : ℕ) → (b : Bool) × (b ≡ ltb s x.sum) × (z ≡ cond b (record { sum = s; at = k }) x) → s ≡ total r w (counts_of k) → x.sum ≡ total r w (counts_of x.at) → BestAmong r w none (rank_of r (counts_of k)) (counts_of x.at)
       → BestAmong r w none (rank_of r (counts_of k) + 1) (counts_of z.at) × (z.sum ≡ total r w (counts_of z.at))
-  lesser w x z s is new old best =
+  lesser m w x z s (b, tells, is) new old best =
       let a = sum_none r.count (counts_of k) in
-      let b = sum_none r.count (counts_of x.at) in
-      better w none w x z s (ltb s x.sum) is (λ e. omega (arith, ltb-true s x.sum e, a, b)) (λ e. omega (arith, ltb-false s x.sum e, a, b)) new old best
+      let o = sum_none r.count (counts_of x.at) in
+      better m w none w x z s b is (λ e. omega (arith, ltb-true s x.sum (sym tells ∙ e), a, o)) (λ e. omega (arith, ltb-false s x.sum (sym tells ∙ e), a, o)) new old best
 
-  pub greater : (w : Much) (x z : Extreme) (s : ℕ) → z ≡ cond (ltb x.sum s) (record { sum = s; at = k }) x → s ≡ total r w (counts_of k) → x.sum ≡ total r w (counts_of x.at) → BestAmong r none w (rank_of r (counts_of k)) (counts_of x.at)
+  pub greater : Moment r (counts_of k) → (w : Much) (x z : Extreme) (s : ℕ) → (b : Bool) × (b ≡ ltb x.sum s) × (z ≡ cond b (record { sum = s; at = k }) x) → s ≡ total r w (counts_of k) → x.sum ≡ total r w (counts_of x.at) → BestAmong r none w (rank_of r (counts_of k)) (counts_of x.at)
       → BestAmong r none w (rank_of r (counts_of k) + 1) (counts_of z.at) × (z.sum ≡ total r w (counts_of z.at))
-  greater w x z s is new old best =
+  greater m w x z s (b, tells, is) new old best =
       let a = sum_none r.count (counts_of k) in
-      let b = sum_none r.count (counts_of x.at) in
-      better none w w x z s (ltb x.sum s) is (λ e. omega (arith, ltb-true x.sum s e, a, b)) (λ e. omega (arith, ltb-false x.sum s e, a, b)) new old best
+      let o = sum_none r.count (counts_of x.at) in
+      better m none w w x z s b is (λ e. omega (arith, ltb-true x.sum s (sym tells ∙ e), a, o)) (λ e. omega (arith, ltb-false x.sum s (sym tells ∙ e), a, o)) new old best
+
+  -- one cut more, by its number: one that is no moment changes nothing
+  pub one_same : (s : Says) (w : Much) (n : ℕ) → n ≡ rank_of r (counts_of k) → (x : Findings) → (Moment r (counts_of k) → ⊥) → Surveyed r s w n x → Surveyed r s w (n + 1) x
+  one_same s w n is x never seen =
+      let P : ℕ → Type 0 = λ m. Surveyed r s w m x in
+      let Q : ℕ → Type 0 = λ m. Surveyed r s w (m + 1) x in
+      let seen' = subst P is seen in
+      subst Q (sym is) (record {
+        moments = count_same r done (counts_of k) inside x.moments never seen'.moments;
+        few = omega (arith, seen'.few);
+        first = first_same r done (counts_of k) inside s x.first never seen'.first;
+        least = best_same r done (counts_of k) inside w none (counts_of x.least.at) never seen'.least;
+        most = best_same r done (counts_of k) inside none w (counts_of x.most.at) never seen'.most;
+        least_sum = seen.least_sum;
+        most_sum = seen.most_sum;
+      })
+
+  -- and a moment is counted, and compared with what was there
+  pub one_more :
+      (s : Says) (w : Much) (n : ℕ) → n ≡ rank_of r (counts_of k) → (x z : Findings) (all : Bool) (sum : ℕ) → Moment r (counts_of k) → Decides all (AllSay r s (counts_of k)) → sum ≡ total r w (counts_of k) →
+      z.moments ≡ x.moments + 1 → z.first ≡ option_or x.first (then_some all k) →
+      (b : Bool) × (b ≡ ltb sum x.least.sum) × (z.least ≡ cond b (record { sum = sum; at = k }) x.least) → (b : Bool) × (b ≡ ltb x.most.sum sum) × (z.most ≡ cond b (record { sum = sum; at = k }) x.most) →
+      Surveyed r s w n x → Surveyed r s w (n + 1) z
+  one_more s w n is x z all sum m told total counted first less more seen =
+      let P : ℕ → Type 0 = λ i. Surveyed r s w i x in
+      let Q : ℕ → Type 0 = λ i. Surveyed r s w (i + 1) z in
+      let C : ℕ → Type 0 = HowMany r (Among r (rank_of r (counts_of k) + 1)) in
+      let F : Option Counts → Type 0 = FirstAmong r s (rank_of r (counts_of k) + 1) in
+      let seen' = subst P is seen in
+      let least = lesser m w x.least z.least sum less total seen.least_sum seen'.least in
+      let most = greater m w x.most z.most sum more total seen.most_sum seen'.most in
+      subst Q (sym is) (record {
+        moments = subst C (sym counted) (count_more r done (counts_of k) inside x.moments m seen'.moments);
+        few = omega (arith, seen'.few);
+        first = subst F (sym first) (first_more r done (counts_of k) inside s x.first k all refl m told seen'.first);
+        least = least.0;
+        most = most.0;
+        least_sum = least.1;
+        most_sum = most.1;
+      })
+
+  -- where nothing has been seen yet, the first cut is the least and the most
+  pub none_seen : (s : Says) (w : Much) (must : Bool) (sum : ℕ) → rank_of r (counts_of k) ≡ 0 → sum ≡ total r w (counts_of k)
+      → Surveyed r s w 0 (record { moments = 0; first = None; must = must; least = record { sum = sum; at = k }; most = record { sum = sum; at = k } })
+  none_seen s w must sum zero is =
+      let m : Moment r (counts_of k) = moment_alike done nothing (counts_of k) (λ i lt. sym (rank_zero r.did r.count (counts_of k) inside zero i lt)) (moment_first done) in
+      let best : (v u : Much) → BestAmong r v u 0 (counts_of k) = λ v u. record { moment = m; early = omega (arith, zero); ahead = λ d a. absurd (omega (arith, a.1)) } in
+      record {
+        moments = how_many_none r (Among r 0) (λ d a. omega (arith, a.1));
+        few = omega arith;
+        first = λ d a all. omega (arith, a.1);
+        least = best w none;
+        most = best none w;
+        least_sum = is;
+        most_sum = is;
+      }
 
 -- lower in each machine's count, or alike
 lower_rank : (r : Run) (c d : Cut) → Below r c r.did → rank_of r c ≤ rank_of r (lower c d) → Below r c d

@@ -1,6 +1,6 @@
 -- What looking at each cut of a run finds.
 -- Assumes nothing.
-use Rattle.std.specs.Prelude.{◌≡◌, ℕ, ◌<◌, ◌≤◌, List, Decides}
+use Rattle.std.specs.Prelude.{◌≡◌, ℕ, ◌<◌, ◌≤◌, List, Some, None, Decides, Option}
 use Rattle.records.specs.Record.{Record, sign_of, amount_of}
 use Rattle.order.specs.Asked.{RefusedRightly, RecordedRun}
 use Rattle.runs.specs.Run.{Run}
@@ -9,8 +9,6 @@ use Rattle.runs.specs.Model.{counts_of}
 use Rattle.moments.specs.Signs.{Says, FirstOrNone, Must, MayDecided, MustDecided}
 use Rattle.moments.specs.Amounts.{Much, total, Least, Most, LeastFound, MostFound}
 use Rattle.exhaustive.specs.declared.findings.Findings.{Findings}
-use Rattle.exhaustive.specs.declared.findings.Looked.{Looked}
-use Rattle.exhaustive.specs.declared.findings.Looked.TheVariants.{TooMany, All}
 use Rattle.exhaustive.specs.declared.findings.Replied.{Replied}
 use Rattle.exhaustive.specs.declared.findings.Replied.TheVariants as replied
 use Rattle.exhaustive.specs.Counter.{cuts_of}
@@ -26,12 +24,12 @@ pub record Found (r : Run) (s : Says) (w : Much) (f : Findings) : Type 0 where
   pub most_sum : f.most.sum ≡ total r w (counts_of f.most.at)
 
 -- a run of more than 1,000,000 cuts is not gone through
-abbrev pub LookedAs : Run → Says → Much → Looked → Type 0
-LookedAs r s w TooMany = 1000000 < cuts_of r
-LookedAs r s w (All f) = (cuts_of r ≤ 1000000) × Found r s w f
+abbrev pub LookedAs : Run → Says → Much → Option Findings → Type 0
+LookedAs r s w None = 1000000 < cuts_of r
+LookedAs r s w (Some f) = (cuts_of r ≤ 1000000) × Found r s w f
 
 -- this is what looking at each cut of the run that the files recorded finds
-pub record LookedAt (fs : List (List ℕ)) (x : Looked) : Type 0 where
+pub record LookedAt (fs : List (List ℕ)) (x : Option Findings) : Type 0 where
   pub records : List Record
   pub run : Run
   pub recorded : RecordedRun fs records run

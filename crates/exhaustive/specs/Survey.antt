@@ -1,13 +1,14 @@
 -- What has been seen of the cuts so far.
 -- Assumes nothing.
-use Rattle.std.specs.Prelude.{◌≡◌, ℕ, ◌+◌, ◌<◌, ◌≤◌, Bool, true, false, ◌⊎◌, Some, None, Option}
+use Rattle.std.specs.Prelude.{◌≡◌, ℕ, ◌+◌, ◌<◌, ◌≤◌, ◌⊎◌, Some, None, Option}
+use Rattle.runs.specs.declared.run.Run as code
 use Rattle.runs.specs.Run.{Run}
 use Rattle.runs.specs.Moment.{Cut, Moment}
 use Rattle.runs.specs.declared.counts.Counts.{Counts}
-use Rattle.runs.specs.Model.{counts_of}
+use Rattle.runs.specs.Model.{run_of, signs_of, amounts_of, counts_of}
 use Rattle.moments.specs.Signs.{Says, AllSay}
 use Rattle.moments.specs.Amounts.{Much, total}
-use Rattle.exhaustive.specs.declared.seen.Seen.{Seen}
+use Rattle.exhaustive.specs.declared.findings.Findings.{Findings}
 use Rattle.exhaustive.specs.Counter.{rank_of}
 use Rattle.exhaustive.specs.HowMany.{HowMany}
 
@@ -33,13 +34,8 @@ pub record BestAmong (r : Run) (v w : Much) (n : ℕ) (c : Cut) : Type 0 where
 abbrev pub none : Much
 none i m = 0
 
--- the first stays, and where there is none yet a cut becomes it if all say yes there
-abbrev pub first_of : Option Counts → Counts → Bool → Option Counts
-first_of (Some c) d yes' = Some c
-first_of None d true = Some d
-first_of None d false = None
-
-pub record Surveyed (r : Run) (s : Says) (w : Much) (n : ℕ) (x : Seen) : Type 0 where
+-- what has been found at the first n cuts
+pub record Surveyed (r : Run) (s : Says) (w : Much) (n : ℕ) (x : Findings) : Type 0 where
   pub moments : HowMany r (Among r n) x.moments
   pub few : x.moments ≤ n
   pub first : FirstAmong r s n x.first
@@ -47,3 +43,7 @@ pub record Surveyed (r : Run) (s : Says) (w : Much) (n : ℕ) (x : Seen) : Type 
   pub most : BestAmong r none w n (counts_of x.most.at)
   pub least_sum : x.least.sum ≡ total r w (counts_of x.least.at)
   pub most_sum : x.most.sum ≡ total r w (counts_of x.most.at)
+
+-- the same of a run as the program has it
+abbrev pub SurveyedOf : code.Run → ℕ → Findings → Type 0
+SurveyedOf run = Surveyed (run_of run) (signs_of run) (amounts_of run)

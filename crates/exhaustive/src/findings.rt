@@ -13,15 +13,10 @@ pub struct Findings {
     pub most: Extreme,
 }
 
-#[derive(Clone, Copy)]
-pub enum Looked {
-    TooMany,
-    All(Findings),
-}
-
-// What files come to: what looking at each cut of the run that they recorded finds; or why there is none.
+// What files come to: what looking at each cut of the run that they recorded finds, or nothing where they are too many; or why
+// there is no run.
 #[derive(Drop)]
 pub enum Replied {
-    Run(Looked),
+    Run(Option<Findings>),
     Refused(Refusal),
 }

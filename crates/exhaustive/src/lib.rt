@@ -3,6 +3,7 @@
 
 pub(crate) mod at_cut;
 pub(crate) mod counter;
+pub(crate) mod cut;
 pub mod findings;
 pub mod looking;
 pub(crate) mod marks;

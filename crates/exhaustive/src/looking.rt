@@ -4,30 +4,21 @@ ghost use Rattle.records.specs.Reading.{files_of, BeginAlike};
 ghost use Rattle.runs.specs.Model.{run_of, signs_of, amounts_of};
 ghost use Rattle.exhaustive.specs.Looked.{LookedAs, RepliedAs, Always};
 
-use crate::counter::count_cuts;
-use crate::findings::{Findings, Looked, Replied};
-use crate::marks::can_avoid;
-use crate::survey::survey;
+use crate::cut::Cuts;
+use crate::findings::{Findings, Replied};
 use order::asked::{Asked, order_files};
 use runs::run::Run;
 use std::alloc::{AllocError, Global};
 
 // Looks at each cut of a run, if they are few.
-pub(crate) fn look_at_each(heap: Global, run: &Run) -> Result<Looked, AllocError>
+pub(crate) fn look_at_each(heap: Global, run: &Run) -> Result<Option<Findings>, AllocError>
     ensures { IfOk result (LookedAs (run_of run.now) (signs_of run.now) (amounts_of run.now)) }
 {
-    let Some(cuts) = count_cuts(run) else {
-        return Ok(Looked::TooMany);
+    let Some(cuts) = Cuts::of(run) else {
+        return Ok(None);
     };
-    let avoided = can_avoid(heap, run, cuts)?;
-    let seen = survey(run, cuts);
-    Ok(Looked::All(Findings {
-        moments: seen.moments,
-        first: seen.first,
-        must: !avoided,
-        least: seen.least,
-        most: seen.most,
-    }))
+    let avoided = cuts.can_avoid(heap)?;
+    Ok(Some(cuts.survey(!avoided)))
 }
 
 // Looks at each cut of the run that the files recorded. The telling beginning of a long file is enough.
