@@ -18,7 +18,7 @@ use Rattle.moments.proofs.Agreeing.{Agree, signs_agree, amounts_agree, agree_bac
 use Rattle.exhaustive.specs.declared.findings.Findings.{Findings}
 use Rattle.exhaustive.specs.declared.cut.Cuts as held
 use Rattle.exhaustive.specs.Survey.{SurveyedOf}
-use Rattle.exhaustive.specs.Looked.{Found, LookedAs, LookedAt, Always}
+use Rattle.exhaustive.specs.Looked.{Found, LookedAs, RepliedAs, Always}
 use Rattle.exhaustive.proofs.Counting.{one_number}
 use Rattle.exhaustive.proofs.Surveying.{count_all, first_all, least_all, most_all}
 
@@ -74,9 +74,9 @@ module _ (r : Run) (s t : Says) (v w : Much) (signs : Agree r s t) (amounts : Ag
   looked_agree (Some f) h = (h.0, found_agree f h.1)
 
 -- of the run that records make
-pub looked_at : (fs : List (List ℕ)) (m : Matched) (o : Ordered) (x : Option Findings) → InOrderAs fs m o → LookedAs (run_of o.run) (signs_of o.run) (amounts_of o.run) x → LookedAt fs x
+pub looked_at : (fs : List (List ℕ)) (m : Matched) (o : Ordered) (x : Option Findings) → InOrderAs fs m o → LookedAs (run_of o.run) (signs_of o.run) (amounts_of o.run) x → RepliedAs fs x
 looked_at fs m o x h looked =
-    let rs = records_of (vec_items m.records) in
+    let rs = records_of (vec_items m.records.list) in
     let r = run_of o.run in
     record {
       records = rs;

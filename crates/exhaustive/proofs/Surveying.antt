@@ -13,7 +13,7 @@ use Rattle.moments.specs.Amounts.{Much, total, Least, Most}
 use Rattle.moments.proofs.Laws.{lattice, moment_alike, moment_first}
 use Rattle.moments.proofs.Totals.{sum_alike, sum_none, modular}
 use Rattle.moments.proofs.Avoiding.{all_alike}
-use Rattle.exhaustive.specs.declared.seen.Extreme.{Extreme}
+use Rattle.exhaustive.specs.declared.extreme.Extreme.{Extreme}
 use Rattle.exhaustive.specs.declared.findings.Findings.{Findings}
 use Rattle.exhaustive.specs.Counter.{cuts_of, rank_of}
 use Rattle.exhaustive.specs.HowMany.{HowMany}

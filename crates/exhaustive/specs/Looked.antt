@@ -2,15 +2,13 @@
 -- Assumes nothing.
 use Rattle.std.specs.Prelude.{◌≡◌, ℕ, ◌<◌, ◌≤◌, List, Some, None, Decides, Option}
 use Rattle.records.specs.Record.{Record, sign_of, amount_of}
-use Rattle.order.specs.Asked.{RefusedRightly, RecordedRun}
+use Rattle.order.specs.Asked.{RecordedRun}
 use Rattle.runs.specs.Run.{Run}
 use Rattle.runs.specs.Moment.{Moment}
 use Rattle.runs.specs.Model.{counts_of}
 use Rattle.moments.specs.Signs.{Says, FirstOrNone, Must, MayDecided, MustDecided}
 use Rattle.moments.specs.Amounts.{Much, total, Least, Most, LeastFound, MostFound}
 use Rattle.exhaustive.specs.declared.findings.Findings.{Findings}
-use Rattle.exhaustive.specs.declared.findings.Replied.{Replied}
-use Rattle.exhaustive.specs.declared.findings.Replied.TheVariants as replied
 use Rattle.exhaustive.specs.Counter.{cuts_of}
 use Rattle.exhaustive.specs.HowMany.{HowMany, OneNumber}
 
@@ -29,15 +27,11 @@ LookedAs r s w None = 1000000 < cuts_of r
 LookedAs r s w (Some f) = (cuts_of r ≤ 1000000) × Found r s w f
 
 -- this is what looking at each cut of the run that the files recorded finds
-pub record LookedAt (fs : List (List ℕ)) (x : Option Findings) : Type 0 where
+pub record RepliedAs (fs : List (List ℕ)) (x : Option Findings) : Type 0 where
   pub records : List Record
   pub run : Run
   pub recorded : RecordedRun fs records run
   pub looked : LookedAs run (sign_of records) (amount_of records) x
-
-abbrev pub RepliedAs : List (List ℕ) → Replied → Type 0
-RepliedAs fs (replied.Run x) = LookedAt fs x
-RepliedAs fs (replied.Refused why) = RefusedRightly fs why
 
 -- Of every run, however many cuts it has: its moments have one number, both questions of signs are decided, and both of amounts.
 pub record Always : Type 0 where

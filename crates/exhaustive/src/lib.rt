@@ -4,8 +4,8 @@
 pub(crate) mod at_cut;
 pub(crate) mod counter;
 pub(crate) mod cut;
+pub mod extreme;
 pub mod findings;
 pub mod looking;
 pub(crate) mod marks;
-pub mod seen;
 pub(crate) mod survey;

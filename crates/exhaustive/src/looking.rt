@@ -1,12 +1,16 @@
 // From files, or a run, to what looking at each of its cuts finds.
 ghost use Rattle.std.specs.Prelude.{ℕ, List, IfOk};
+ghost use Rattle.records.specs.Failure.{IfRefused};
 ghost use Rattle.records.specs.Reading.{files_of, BeginAlike};
 ghost use Rattle.runs.specs.Model.{run_of, signs_of, amounts_of};
+ghost use Rattle.order.specs.Asked.{RefusedRightly};
 ghost use Rattle.exhaustive.specs.Looked.{LookedAs, RepliedAs, Always};
 
 use crate::cut::Cuts;
-use crate::findings::{Findings, Replied};
-use order::asked::{Asked, order_files};
+use crate::findings::Findings;
+use order::asked::order_files;
+use records::failure::Failure;
+use records::refusal::Refusal;
 use runs::run::Run;
 use std::alloc::{AllocError, Global};
 
@@ -21,17 +25,13 @@ pub(crate) fn look_at_each(heap: Global, run: &Run) -> Result<Option<Findings>, 
     Ok(Some(cuts.survey(!avoided)))
 }
 
-// Looks at each cut of the run that the files recorded. The telling beginning of a long file is enough.
-pub fn look_at_files(heap: Global, files: &[Vec<u8>]) -> Result<Replied, AllocError>
-    ensures replied { IfOk result (λ x. (whole : List (List ℕ)) → BeginAlike whole (files_of files.now) → RepliedAs whole x) }
+// Looks at each cut of the run that the files recorded, if they are few. The telling beginning of a long file is enough.
+pub fn look_at_files(heap: Global, files: &[Vec<u8>]) -> Result<Option<Findings>, Failure<Refusal>>
+    ensures replied { IfOk result (λ looked. (whole : List (List ℕ)) → BeginAlike whole (files_of files.now) → RepliedAs whole looked) }
+    ensures refused { IfRefused result (λ why. (whole : List (List ℕ)) → BeginAlike whole (files_of files.now) → RefusedRightly whole why) }
     ensures always { Always }
 {
     let asked = order_files(heap, files)?;
-    match asked {
-        Asked::Refused(refusal) => Ok(Replied::Refused(refusal)),
-        Asked::Run { ordered, .. } => {
-            let looked = look_at_each(heap, &ordered.run)?;
-            Ok(Replied::Run(looked))
-        }
-    }
+    let looked = look_at_each(heap, &asked.ordered.run)?;
+    Ok(looked)
 }

@@ -1,5 +1,5 @@
 // A pass over all cuts that marks those to which the run can have come with no moment of all yes so far.
-ghost use Rattle.std.specs.Prelude.{◌≡◌, length, IfOk, Decides};
+ghost use Rattle.std.specs.Prelude.{◌≡◌, length, IfOk, ◌↔◌, IsTrue};
 ghost use Rattle.runs.specs.Model.{run_of, signs_of, counts_of};
 ghost use Rattle.moments.specs.Signs.{ComesTo};
 ghost use Rattle.exhaustive.specs.Counter.{cuts_of};
@@ -14,7 +14,7 @@ impl Cut<'_> {
     // number as the machines below have cuts between them.
     fn came(&self, marks: &[bool]) -> bool
         requires long { length marks.now ≡ cuts_of (run_of self.now.run.now) }
-        ensures { Decides result (Came (run_of self.now.run.now) marks.now (counts_of self.now.counts) self.now.number) }
+        ensures { IsTrue result ↔ Came (run_of self.now.run.now) marks.now (counts_of self.now.counts) self.now.number }
     {
         if self.number == 0 {
             return true;
@@ -33,7 +33,7 @@ impl Cut<'_> {
     fn comes(&self, marks: &[bool]) -> bool
         requires long { length marks.now ≡ cuts_of (run_of self.now.run.now) }
         requires marked { Marked (run_of self.now.run.now) (signs_of self.now.run.now) marks.now self.now.number }
-        ensures { Decides result (ComesTo (run_of self.now.run.now) (signs_of self.now.run.now) (counts_of self.now.counts)) }
+        ensures { IsTrue result ↔ ComesTo (run_of self.now.run.now) (signs_of self.now.run.now) (counts_of self.now.counts) }
     {
         self.came(marks) && !self.all_yes() && is_moment(self.run, self.counts)
     }
@@ -42,7 +42,7 @@ impl Cut<'_> {
 impl Cuts<'_> {
     // Can the run have come to its end so.
     pub(crate) fn can_avoid(&self, heap: Global) -> Result<bool, AllocError>
-        ensures { IfOk result (λ x. Decides x (ComesTo (run_of self.now.run.now) (signs_of self.now.run.now) (counts_of self.now.run.now.did))) }
+        ensures { IfOk result (λ x. IsTrue x ↔ ComesTo (run_of self.now.run.now) (signs_of self.now.run.now) (counts_of self.now.run.now.did)) }
     {
         let mut marks = vec![in heap; false; self.count]?;
         for cut in self.iter() {

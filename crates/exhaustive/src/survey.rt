@@ -3,8 +3,8 @@ ghost use Rattle.std.specs.Prelude.{◌≡◌, ◌+◌, Bool, if◌then◌else�
 ghost use Rattle.exhaustive.specs.Survey.{SurveyedOf};
 
 use crate::cut::{Cut, Cuts};
+use crate::extreme::Extreme;
 use crate::findings::Findings;
-use crate::seen::Extreme;
 use moments::moment::is_moment;
 
 impl Extreme {
