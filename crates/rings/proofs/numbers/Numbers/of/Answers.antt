@@ -1,7 +1,7 @@
 use Rattle.std.proofs.Common.{length, vec_items, ap, ◌∙◌, arith}
 use Rattle.runs.specs.Model.{counts_of}
 use Rattle.rings.proofs.Numbered.{in_long, numbered_none, numbered_more}
-use Rattle.rings.proofs.numbers.number_doings.Goals as goal
+use Rattle.rings.proofs.numbers.Numbers.of.Goals as goal
 
 pub loop-i-init : goal.loop-i-init
 loop-i-init c = numbered_none c.args.run.now (vec_items c.new-places.result) c.none-begins.result c.new-places.ensures.items
