@@ -11,18 +11,18 @@ use std::alloc::{AllocError, Global};
 pub(crate) struct Search<'a> {
     pub(crate) links: &'a Links,
     pub(crate) start: usize,
-    pub(crate) top: usize,
+    pub(crate) top: u16,
     ghost inside: { start < length links.now.of.items },
     ghost low: { 1 < top },
-    ghost small: { top < 2 ^ 64 },
+    ghost small: { top < 2 ^ 16 },
 }
 
 // Gives v so many steps, if it has none yet, and notes it.
 fn mark(
-    table: &mut [Option<usize>],
+    table: &mut [Option<u16>],
     next: &mut Vec<usize>,
     v: usize,
-    steps: usize,
+    steps: u16,
 ) -> Result<(), AllocError>
     requires { v < length table.old }
     ensures { OnOk result (Marked steps v table.old next.old.items table.new next.new.items) }
@@ -38,10 +38,10 @@ impl Search<'_> {
     // Gives so many steps to the numbers from which a step leads to w.
     fn into(
         &self,
-        table: &mut [Option<usize>],
+        table: &mut [Option<u16>],
         next: &mut Vec<usize>,
         w: usize,
-        steps: usize,
+        steps: u16,
     ) -> Result<(), AllocError>
         requires long { length table.old ≡ length self.now.links.now.of.items }
         requires inside { w < length self.now.links.now.of.items }
@@ -60,8 +60,8 @@ impl Search<'_> {
     fn level(
         &self,
         heap: Global,
-        table: &mut [Option<usize>],
-        k: usize,
+        table: &mut [Option<u16>],
+        k: u16,
         at_k: &[usize],
     ) -> Result<Vec<usize>, AllocError>
         requires leveled { Leveled self.now.links.now.of.items self.now.start self.now.top k table.old at_k.now }
@@ -76,7 +76,7 @@ impl Search<'_> {
     }
 
     // The first level: what is one step from the start, and not lower.
-    fn begin(&self, heap: Global, table: &mut [Option<usize>]) -> Result<Vec<usize>, AllocError>
+    fn begin(&self, heap: Global, table: &mut [Option<u16>]) -> Result<Vec<usize>, AllocError>
         requires long { length table.old ≡ length self.now.links.now.of.items }
         ensures { IfOk result (λ x. Leveled self.now.links.now.of.items self.now.start self.now.top 1 table.new x.items) }
     {
@@ -92,7 +92,7 @@ impl Search<'_> {
     pub(crate) fn measure(
         &self,
         heap: Global,
-        table: &mut [Option<usize>],
+        table: &mut [Option<u16>],
     ) -> Result<(), AllocError>
         requires long { length table.old ≡ length self.now.links.now.of.items }
         ensures { OnOk result (Measured self.now.links.now.of.items self.now.start self.now.top table.new) }

@@ -11,7 +11,7 @@ use std::alloc::{AllocError, Global};
 #[derive(Clone, Copy)]
 pub(crate) struct Best {
     pub(crate) start: usize,
-    pub(crate) fewest: usize,
+    pub(crate) fewest: u16,
 }
 
 // A ring by its lowest number and those after it.
@@ -25,7 +25,7 @@ pub(crate) struct Found {
 fn better(
     heap: Global,
     links: &Links,
-    table: &mut [Option<usize>],
+    table: &mut [Option<u16>],
     best: Option<Best>,
     t: usize,
 ) -> Result<Option<Best>, AllocError>
@@ -34,7 +34,7 @@ fn better(
     requires shortest { Shortest (In links.now.of.items) (length links.now.of.items) t best }
     ensures { IfOk result (Shortest (In links.now.of.items) (length links.now.of.items) (t + 1)) }
 {
-    let top = best.map_or(links.of.len() + 1, |best| best.fewest);
+    let top = best.map_or(links.of.len() as u16 + 1, |best| best.fewest);
     if top <= 1 || links.sent_from(t, t).is_none() {
         return Ok(best);
     }
@@ -54,7 +54,7 @@ fn better(
 fn shortest(
     heap: Global,
     links: &Links,
-    table: &mut [Option<usize>],
+    table: &mut [Option<u16>],
 ) -> Result<Option<Best>, AllocError>
     requires long { length table.old ≡ length links.now.of.items }
     ensures { IfOk result (Shortest (In links.now.of.items) (length links.now.of.items) (length links.now.of.items)) }

@@ -8,7 +8,7 @@ use std::alloc::{AllocError, Global};
 
 impl Search<'_> {
     // The lowest number that a step from v leads to, of those that are k steps from the start.
-    fn lowest_next(&self, table: &[Option<usize>], v: usize, k: usize) -> usize
+    fn lowest_next(&self, table: &[Option<u16>], v: usize, k: u16) -> usize
         requires long { length table.now ≡ length self.now.links.now.of.items }
         requires inside { v < length self.now.links.now.of.items }
         requires some { Some_next self.now.links.now.of.items table.now self.now.start v k }
@@ -25,9 +25,9 @@ impl Search<'_> {
     // Goes from v along the distances, always to the lowest next number, until the start is one step away.
     fn go_on(
         &self,
-        table: &[Option<usize>],
+        table: &[Option<u16>],
         v: usize,
-        k: usize,
+        k: u16,
         out: &mut Vec<usize>,
     ) -> Result<(), AllocError>
         requires measured { Measured self.now.links.now.of.items self.now.start self.now.top table.now }
@@ -46,8 +46,8 @@ impl Search<'_> {
     pub(crate) fn way_back(
         &self,
         heap: Global,
-        table: &[Option<usize>],
-        steps: usize,
+        table: &[Option<u16>],
+        steps: u16,
     ) -> Result<Vec<usize>, AllocError>
         requires measured { Measured self.now.links.now.of.items self.now.start self.now.top table.now }
         requires reached { far table.now self.now.top self.now.start ≡ steps }
