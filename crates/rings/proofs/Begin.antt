@@ -6,29 +6,29 @@ use native.Mathlib.Decide.{ℕ_discrete}
 use borrow.Rule.Slice.PartMut.{put_mid, mid_of, post_of, mid_len, same_len_mid}
 use Rattle.std.proofs.lemmas.List.{get_or-append-add, get_or_append_left, get_or-replicate, length-replicate, length-take-le, get_or_past}
 use Rattle.rings.specs.declared.links.Link.{Link}
-use Rattle.rings.specs.Links.{In, SentFrom, entry, far, Below, Marked, Leveled, Measured}
+use Rattle.rings.specs.Links.{In, SentFrom, far, Below, Marked, Leveled, Measured}
 use Rattle.rings.proofs.Comparing.{le_or_lt}
 use Rattle.rings.proofs.Levels.{far_none, far_set, far_other, below_set}
 use Rattle.rings.proofs.Search.{level_first, level_last}
 
 -- from s on nothing is known in a table that was emptied there
-pub blank_from : (s : ℕ) (table part : List (Option ℕ)) → s ≤ length table → part ≡ replicate (length (mid_of s (length table - s) table)) None → (v : ℕ) → s ≤ v → entry (put_mid s (length table - s) table part) v ≡ None
+pub blank_from : (s : ℕ) (table part : List ℕ) → s ≤ length table → part ≡ replicate (length (mid_of s (length table - s) table)) 0 → (v : ℕ) → s ≤ v → get_or (put_mid s (length table - s) table part) v 0 ≡ 0
 blank_from s table part le is v a =
     let B = post_of s (length table - s) table in
-    let all : length part ≡ length (mid_of s (length table - s) table) = ap length is ∙ length-replicate (length (mid_of s (length table - s) table)) None in
+    let all : length part ≡ length (mid_of s (length table - s) table) = ap length is ∙ length-replicate (length (mid_of s (length table - s) table)) 0 in
     let long : length part ≡ length table - s = all ∙ mid_len s (length table) table (omega arith) in
     let front : length (take s table) ≡ s = length-take-le s table le in
     elim (le_or_lt (length table) v) [
-      | inl ge ↦ get_or_past (put_mid s (length table - s) table part) v None (omega (arith, same_len_mid s (length table - s) table part all))
+      | inl ge ↦ get_or_past (put_mid s (length table - s) table part) v 0 (omega (arith, same_len_mid s (length table - s) table part all))
       | inr lt ↦
           let at : length (take s table) + (v - s) ≡ v = omega arith in
-          ap (λ (x : ℕ). get_or (take s table ++ (part ++ B)) x None) (sym at) ∙ get_or-append-add (take s table) (part ++ B) (v - s) None ∙ get_or_append_left part B None (v - s) (omega arith) ∙ ap (λ (x : List (Option ℕ)). get_or x (v - s) None) is
-          ∙ get_or-replicate (length (mid_of s (length table - s) table)) (v - s) None None (omega arith)
+          ap (λ (x : ℕ). get_or (take s table ++ (part ++ B)) x 0) (sym at) ∙ get_or-append-add (take s table) (part ++ B) (v - s) 0 ∙ get_or_append_left part B 0 (v - s) (omega arith) ∙ ap (λ (x : List ℕ). get_or x (v - s) 0) is
+          ∙ get_or-replicate (length (mid_of s (length table - s) table)) (v - s) 0 0 (omega arith)
     ]
 
-module _ (links : List Link) (s top : ℕ) (table : List (Option ℕ)) (inside : s < length links) (low : 1 < top) (long : length table ≡ length links) (blank : (v : ℕ) → s ≤ v → entry table v ≡ None) where
+module _ (links : List Link) (s top : ℕ) (table : List ℕ) (inside : s < length links) (low : 1 < top) (long : length table ≡ length links) (blank : (v : ℕ) → s ≤ v → get_or table v 0 ≡ 0) where
   none_below : Below s top table
-  none_below v d a e = let f : None ≡ Some d = sym (blank v a) ∙ e in cc
+  none_below v a = omega (arith, blank v a)
 
   -- nothing leads to s from s on
   pub begin_none : (first : List ℕ) → SentFrom links s s None → first ≡ [] → Leveled links s top 1 table first
@@ -42,17 +42,17 @@ module _ (links : List Link) (s top : ℕ) (table : List (Option ℕ)) (inside :
       }
 
   -- one number does
-  pub begin_one : (table' : List (Option ℕ)) (first first' : List ℕ) (u : ℕ) → SentFrom links s s (Some u) → first ≡ [] → Marked 1 u table first table' first' → Leveled links s top 1 table' first'
+  pub begin_one : (table' : List ℕ) (first first' : List ℕ) (u : ℕ) → SentFrom links s s (Some u) → first ≡ [] → Marked 1 u table first table' first' → Leveled links s top 1 table' first'
   begin_one table' first first' u (is, a, l) f (inr (n, p, q)) = absurd (n (blank u a))
   begin_one table' first first' u (is, a, l) f (inl (t, p, q)) =
       let ul : u < length table = omega arith in
-      let new = set table u (Some 1) in
-      let here : far new top u ≡ 1 = far_set table top u 1 ul in
+      let new = set table u 1 in
+      let here : far new top u ≡ 1 = far_set table top u 1 ul (omega arith) in
       let other : (v : ℕ) → s ≤ v → (v ≡ u → ⊥) → far new top v ≡ top = λ v b ne. far_other table top u 1 ul v ne ∙ far_none table top v (blank v b) in
-      let A : List (Option ℕ) → Type 0 = λ z. Leveled links s top 1 z first' in
+      let A : List ℕ → Type 0 = λ z. Leveled links s top 1 z first' in
       let B : List ℕ → Type 0 = λ z. Leveled links s top 1 new z in
       subst A (sym p) (subst B (sym (q ∙ ap (λ (x : List ℕ). x ++ (u ∷ [])) f)) (record {
-        long = length-set table u (Some 1) ∙ long;
+        long = length-set table u 1 ∙ long;
         below = below_set table top u 1 ul s low none_below;
         level = level_first (In links) s top (far new top) low
             (λ v b. elim (ℕ_discrete v u) [ yes g ↦ inl (ap (far new top) g ∙ here, (omega (arith, g), inside, inr (is ∙ ap (λ (x : ℕ). Some x) (sym g)))) | no ne ↦ inr (other v b ne) ])
@@ -64,7 +64,7 @@ module _ (links : List Link) (s top : ℕ) (table : List (Option ℕ)) (inside :
       }))
 
 -- no number is at the last level, or no further one is wanted
-pub ended : (links : List Link) (s top k : ℕ) (table : List (Option ℕ)) (cur : List ℕ) → 1 ≤ k → k < top → Leveled links s top k table cur → (length cur ≡ 0) ⊎ (top ≤ k + 1) → Measured links s top table
+pub ended : (links : List Link) (s top k : ℕ) (table : List ℕ) (cur : List ℕ) → 1 ≤ k → k < top → Leveled links s top k table cur → (length cur ≡ 0) ⊎ (top ≤ k + 1) → Measured links s top table
 ended links s top k table cur one lt x end =
     record {
       long = x.long;

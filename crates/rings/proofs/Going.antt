@@ -1,18 +1,17 @@
 -- Going along the distances.
-use Rattle.std.proofs.Common.{◌≡◌, ℕ, ◌+◌, ◌-◌, ◌<◌, ◌≤◌, List, [], ◌∷◌, ◌++◌, length, Some, None, Option, ap, subst, arith, length-append}
-use Rattle.std.specs.Option.{unwrap_or}
+use Rattle.std.proofs.Common.{◌≡◌, ℕ, zero, suc, ◌+◌, ◌-◌, ◌<◌, ◌≤◌, List, [], ◌∷◌, ◌++◌, length, get_or, subst, arith, length-append}
 use Rattle.rings.specs.declared.links.Link.{Link}
 use Rattle.rings.specs.RingSearch.{Greedy, Toward}
-use Rattle.rings.specs.Links.{In, entry, far, Some_next, Lowest, Measured, Going}
+use Rattle.rings.specs.Links.{In, far_of, far, Some_next, Lowest, Measured, Going}
 use Rattle.rings.proofs.Levels.{far_some}
 use Rattle.rings.proofs.Search.{toward_start, toward_more, toward_end, exact_next, exact_near, exact_back}
 
 -- a distance below top is an entry
-entry_is : (o : Option ℕ) (top k : ℕ) → unwrap_or o top ≡ k → k < top → o ≡ Some k
-entry_is None top k e lt = absurd (omega arith)
-entry_is (Some d) top k e lt = ap (λ (x : ℕ). Some x) e
+entry_is : (top n k : ℕ) → far_of top n ≡ k → k < top → n ≡ k
+entry_is top zero k e lt = absurd (omega arith)
+entry_is top (suc n) k e lt = e
 
-module _ (links : List Link) (table : List (Option ℕ)) (s top : ℕ) (m : Measured links s top table) where
+module _ (links : List Link) (table : List ℕ) (s top : ℕ) (m : Measured links s top table) where
   pub going_start : (steps : ℕ) → s < length links → far table top s ≡ steps → steps < top → Going links table s top s steps []
   going_start steps inside e lt =
       record {
@@ -29,7 +28,7 @@ module _ (links : List Link) (table : List (Option ℕ)) (s top : ℕ) (m : Meas
     pub going_some : 1 < k → Some_next links table s v (k - 1)
     going_some h =
         let w = exact_next (In links) s top (far table top) m.exact v (k - 1 - 1) g.from (omega (arith, g.here)) (omega (arith, g.here, g.low)) in
-        (w.0, w.1, w.2, entry_is (entry table w.0) top (k - 1) (omega (arith, w.3)) (omega (arith, g.low)))
+        (w.0, w.1, w.2, entry_is top (get_or table w.0 0) (k - 1) (omega (arith, w.3)) (omega (arith, g.low)))
 
     pub going_more : 1 < k → (w : ℕ) → Lowest links table s v (k - 1) w → Going links table s top w (k - 1) (xs ++ (w ∷ []))
     going_more h w l =
@@ -37,11 +36,11 @@ module _ (links : List Link) (table : List (Option ℕ)) (s top : ℕ) (m : Meas
         record {
           inside = l.step.1;
           from = l.from;
-          here = far_some table top w (k - 1) l.here;
+          here = far_some table top w (k - 1) l.here (omega arith);
           low = omega (arith, g.low);
           one = omega arith;
           toward = toward_more (In links) s (far table top) xs v w (k - 1 - 1) (subst (λ z. Toward (In links) s (far table top) xs v z) e g.toward) l.step
-              (λ u a o f. l.least u a o (entry_is (entry table u) top (k - 1) (omega (arith, exact_near (In links) s top (far table top) m.exact v u (k - 1 - 1) g.from a o (omega (arith, g.here)) f)) (omega (arith, g.low))));
+              (λ u a o f. l.least u a o (entry_is top (get_or table u 0) (k - 1) (omega (arith, exact_near (In links) s top (far table top) m.exact v u (k - 1 - 1) g.from a o (omega (arith, g.here)) f)) (omega (arith, g.low))));
           long = omega (arith, g.long, length-append xs (w ∷ []));
         }
 

@@ -1,11 +1,11 @@
 -- One start after another.
-use Rattle.std.proofs.Common.{◌≡◌, ℕ, ◌+◌, ◌-◌, ◌<◌, ◌≤◌, List, length, Some, None, Option, sym, subst, ⊎_elim, arith}
+use Rattle.std.proofs.Common.{◌≡◌, ℕ, ◌+◌, ◌-◌, ◌<◌, ◌≤◌, List, length, get_or, Some, None, Option, sym, subst, ⊎_elim, arith}
 use native.Mathlib.Decide.{ℕ_discrete}
 use Rattle.std.specs.Option.{option_map_or}
 use Rattle.rings.specs.declared.finding.Best as best
 use Rattle.rings.specs.declared.links.Link.{Link}
 use Rattle.rings.specs.RingSearch.{AtLeast, Best, Greedy, Found}
-use Rattle.rings.specs.Links.{In, entry, far, SentFrom, Measured}
+use Rattle.rings.specs.Links.{In, far, SentFrom, Measured}
 use Rattle.rings.specs.Shortest.{Known, Shortest}
 use Rattle.rings.proofs.Table.{table_least, never_entered}
 use Rattle.rings.proofs.Levels.{far_some, far_none}
@@ -40,17 +40,17 @@ module _ (links : List Link) where
     pub pass_unentered : (o : Option best.Best) → Shortest (In links) (length links) t o → SentFrom links t t None → Shortest (In links) (length links) (t + 1) o
     pass_unentered o h none = passed o h (never_entered (In links) t (top_of (length links) o) (λ v a e. ⊎_elim (λ x. omega (arith, x.1)) (λ x. omega (arith, none v x)) e.2))
 
-    pub pass_far : (o : Option best.Best) → Shortest (In links) (length links) t o → (table : List (Option ℕ)) → Measured links t (top_of (length links) o) table → entry table t ≡ None → Shortest (In links) (length links) (t + 1) o
+    pub pass_far : (o : Option best.Best) → Shortest (In links) (length links) t o → (table : List ℕ) → Measured links t (top_of (length links) o) table → get_or table t 0 ≡ 0 → Shortest (In links) (length links) (t + 1) o
     pass_far o h table x none =
         let top = top_of (length links) o in
         passed o h (table_least (In links) t top (far table top) x.exact.table (omega (arith, far_none table top t none)))
 
-    pub take_it : (o : Option best.Best) → Shortest (In links) (length links) t o → (table : List (Option ℕ)) (m : ℕ) → Measured links t (top_of (length links) o) table → entry table t ≡ Some m → Known (In links) (length links) (t + 1) (record { start = t; fewest = m })
-    take_it o h table m x is =
+    pub take_it : (o : Option best.Best) → Shortest (In links) (length links) t o → (table : List ℕ) (m : ℕ) → Measured links t (top_of (length links) o) table → get_or table t 0 ≡ m → 1 ≤ m → Known (In links) (length links) (t + 1) (record { start = t; fewest = m })
+    take_it o h table m x is some =
         let top = top_of (length links) o in
         let z = so_far o h in
-        let lt : m < top = x.below t m (omega arith) is in
-        let e : far table top t ≡ m = far_some table top t m is in
+        let lt : m < top = omega (arith, is, x.below t (omega arith)) in
+        let e : far table top t ≡ m = far_some table top t m is some in
         let one : 1 ≤ m = omega (arith, e, x.exact.some t (omega arith)) in
         let w = exact_walk (In links) t top (far table top) x.exact (m - 1) t (omega arith) (omega (arith, e, one)) (omega (arith, e, lt)) in
         record {
@@ -63,7 +63,7 @@ module _ (links : List Link) where
           long = omega (arith, w.3, one);
         }
 
-  module _ (b : best.Best) (h : Known (In links) (length links) (length links) b) (table : List (Option ℕ)) (x : Measured links b.start (b.fewest + 1) table) where
+  module _ (b : best.Best) (h : Known (In links) (length links) (length links) b) (table : List ℕ) (x : Measured links b.start (b.fewest + 1) table) where
     pub distance_is : far table (b.fewest + 1) b.start ≡ b.fewest
     distance_is = best_again (In links) (length links) b.start b.fewest (far table (b.fewest + 1)) h.fewest h.before x.exact h.ring h.from h.walk h.long
 

@@ -6,7 +6,7 @@ use crate::links::Links;
 use std::alloc::{AllocError, Global};
 
 // A search for the steps from each number back to a start, where fewer than top. Only numbers from the start on are gone through.
-// In its table a number has its steps once they are known.
+// In its table a number has its steps once they are known, and 0 before: options in it made the way back twice as slow.
 #[derive(Clone, Copy)]
 pub(crate) struct Search<'a> {
     pub(crate) links: &'a Links,
@@ -19,17 +19,18 @@ pub(crate) struct Search<'a> {
 
 // Gives v so many steps, if it has none yet, and notes it.
 fn mark(
-    table: &mut [Option<u16>],
+    table: &mut [u16],
     next: &mut Vec<usize>,
     v: usize,
     steps: u16,
 ) -> Result<(), AllocError>
-    requires { v < length table.old }
+    requires inside { v < length table.old }
+    requires some { 0 < steps }
     ensures { OnOk result (Marked steps v table.old next.old.items table.new next.new.items) }
 {
-    if table[v].is_none() {
+    if table[v] == 0 {
         next.push(v)?;
-        table[v] = Some(steps);
+        table[v] = steps;
     }
     Ok(())
 }
@@ -38,13 +39,14 @@ impl Search<'_> {
     // Gives so many steps to the numbers from which a step leads to w.
     fn into(
         &self,
-        table: &mut [Option<u16>],
+        table: &mut [u16],
         next: &mut Vec<usize>,
         w: usize,
         steps: u16,
     ) -> Result<(), AllocError>
         requires long { length table.old ≡ length self.now.links.now.of.items }
         requires inside { w < length self.now.links.now.of.items }
+        requires some { 0 < steps }
         ensures { OnOk result (Into self.now.links.now.of.items self.now.start steps w table.old next.old.items table.new next.new.items) }
     {
         if self.links.of[w].own && self.start < w {
@@ -60,7 +62,7 @@ impl Search<'_> {
     fn level(
         &self,
         heap: Global,
-        table: &mut [Option<u16>],
+        table: &mut [u16],
         k: u16,
         at_k: &[usize],
     ) -> Result<Vec<usize>, AllocError>
@@ -76,11 +78,11 @@ impl Search<'_> {
     }
 
     // The first level: what is one step from the start, and not lower.
-    fn begin(&self, heap: Global, table: &mut [Option<u16>]) -> Result<Vec<usize>, AllocError>
+    fn begin(&self, heap: Global, table: &mut [u16]) -> Result<Vec<usize>, AllocError>
         requires long { length table.old ≡ length self.now.links.now.of.items }
         ensures { IfOk result (λ x. Leveled self.now.links.now.of.items self.now.start self.now.top 1 table.new x.items) }
     {
-        table[self.start..].fill(None);
+        table[self.start..].fill(0);
         let mut first = Vec::new(heap);
         if let Some(v) = self.links.sent_from(self.start, self.start) {
             mark(table, &mut first, v, 1)?;
@@ -92,7 +94,7 @@ impl Search<'_> {
     pub(crate) fn measure(
         &self,
         heap: Global,
-        table: &mut [Option<u16>],
+        table: &mut [u16],
     ) -> Result<(), AllocError>
         requires long { length table.old ≡ length self.now.links.now.of.items }
         ensures { OnOk result (Measured self.now.links.now.of.items self.now.start self.now.top table.new) }

@@ -25,7 +25,7 @@ pub(crate) struct Found {
 fn better(
     heap: Global,
     links: &Links,
-    table: &mut [Option<u16>],
+    table: &mut [u16],
     best: Option<Best>,
     t: usize,
 ) -> Result<Option<Best>, AllocError>
@@ -45,8 +45,8 @@ fn better(
     }
     .measure(heap, table)?;
     match table[t] {
-        None => Ok(best),
-        Some(fewest) => Ok(Some(Best { start: t, fewest })),
+        0 => Ok(best),
+        fewest => Ok(Some(Best { start: t, fewest })),
     }
 }
 
@@ -54,7 +54,7 @@ fn better(
 fn shortest(
     heap: Global,
     links: &Links,
-    table: &mut [Option<u16>],
+    table: &mut [u16],
 ) -> Result<Option<Best>, AllocError>
     requires long { length table.old ≡ length links.now.of.items }
     ensures { IfOk result (Shortest (In links.now.of.items) (length links.now.of.items) (length links.now.of.items)) }
@@ -70,7 +70,7 @@ fn shortest(
 pub(crate) fn lowest(heap: Global, links: &Links) -> Result<Option<Found>, AllocError>
     ensures { IfOk result (Searched (In links.now.of.items) (length links.now.of.items)) }
 {
-    let mut table = vec![in heap; None; links.of.len()]?;
+    let mut table = vec![in heap; 0; links.of.len()]?;
     let table = table.as_mut_slice();
     let Some(best) = shortest(heap, links, table)? else {
         return Ok(None);

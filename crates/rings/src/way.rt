@@ -8,14 +8,14 @@ use std::alloc::{AllocError, Global};
 
 impl Search<'_> {
     // The lowest number that a step from v leads to, of those that are k steps from the start.
-    fn lowest_next(&self, table: &[Option<u16>], v: usize, k: u16) -> usize
+    fn lowest_next(&self, table: &[u16], v: usize, k: u16) -> usize
         requires long { length table.now ≡ length self.now.links.now.of.items }
         requires inside { v < length self.now.links.now.of.items }
         requires some { Some_next self.now.links.now.of.items table.now self.now.start v k }
         ensures { Lowest self.now.links.now.of.items table.now self.now.start v k result }
     {
         for u in self.start..table.len() {
-            if table[u] == Some(k) && self.links.leads(v, u) {
+            if table[u] == k && self.links.leads(v, u) {
                 return u;
             }
         }
@@ -25,7 +25,7 @@ impl Search<'_> {
     // Goes from v along the distances, always to the lowest next number, until the start is one step away.
     fn go_on(
         &self,
-        table: &[Option<u16>],
+        table: &[u16],
         v: usize,
         k: u16,
         out: &mut Vec<usize>,
@@ -46,7 +46,7 @@ impl Search<'_> {
     pub(crate) fn way_back(
         &self,
         heap: Global,
-        table: &[Option<u16>],
+        table: &[u16],
         steps: u16,
     ) -> Result<Vec<usize>, AllocError>
         requires measured { Measured self.now.links.now.of.items self.now.start self.now.top table.now }
