@@ -29,7 +29,8 @@ impl Links {
         }
     }
 
-    // Does a step lead from v to w.
+    // Does a step lead from v to w. Not inlined, since few of the numbers that `lowest_next` goes by are asked for.
+    #[inline(never)]
     pub(crate) fn leads(&self, v: usize, w: usize) -> bool
         requires from { v < length self.now.of.items }
         requires to { w < length self.now.of.items }
