@@ -1,8 +1,10 @@
 -- Going along the distances.
-use Rattle.std.proofs.Common.{◌≡◌, ℕ, zero, suc, ◌+◌, ◌-◌, ◌<◌, ◌≤◌, List, [], ◌∷◌, ◌++◌, length, get_or, subst, arith, length-append}
+use Rattle.std.proofs.Common.{◌≡◌, ℕ, zero, suc, ◌+◌, ◌-◌, ◌<◌, ◌≤◌, List, [], ◌∷◌, ◌++◌, length, Some, None, Option, get_or, refl, inl, inr, subst, arith, length-append}
 use Rattle.rings.specs.declared.links.Link.{Link}
 use Rattle.rings.specs.RingSearch.{Greedy, Toward}
 use Rattle.rings.specs.Links.{In, far_of, far, Some_next, Lowest, Measured, Going}
+use Rattle.std.specs.Option.{MatchOption}
+use Rattle.rings.proofs.Comparing.{le_or_lt}
 use Rattle.rings.proofs.Levels.{far_some}
 use Rattle.rings.proofs.Search.{toward_start, toward_more, toward_end, exact_next, exact_near, exact_back}
 
@@ -10,6 +12,19 @@ use Rattle.rings.proofs.Search.{toward_start, toward_more, toward_end, exact_nex
 entry_is : (top n k : ℕ) → far_of top n ≡ k → k < top → n ≡ k
 entry_is top zero k e lt = absurd (omega arith)
 entry_is top (suc n) k e lt = e
+
+-- the first number found is the lowest, and one is found
+module _ (links : List Link) (table : List ℕ) (s v k : ℕ) where
+  abbrev pub Is : ℕ → Type 0
+  Is u = In links v u × (get_or table u 0 ≡ k)
+
+  abbrev pub IsNot : ℕ → Type 0
+  IsNot u = In links v u → get_or table u 0 ≡ k → ⊥
+
+  pub found_next : (last : ℕ) (r : Option ℕ) → last ≡ length links → Some_next links table s v k → MatchOption r ((u : ℕ) → s ≤ u → u < last → IsNot u) (λ i. (s ≤ i) × (i < last) × Is i × ((u : ℕ) → s ≤ u → u < i → IsNot u)) → (w : ℕ) × (r ≡ Some w) × Lowest links table s v k w
+  found_next last None e some none = absurd (none some.0 some.1 (omega (arith, some.2.1)) some.2 some.3)
+  found_next last (Some i) e some (a, b, c, d) =
+      (i, refl, record { from = a; step = c.0; here = c.1; least = λ u h j f. elim (le_or_lt i u) [ inl le ↦ le | inr lt ↦ absurd (d u h lt j f) ] })
 
 module _ (links : List Link) (table : List ℕ) (s top : ℕ) (m : Measured links s top table) where
   pub going_start : (steps : ℕ) → s < length links → far table top s ≡ steps → steps < top → Going links table s top s steps []

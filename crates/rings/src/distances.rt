@@ -18,12 +18,7 @@ pub(crate) struct Search<'a> {
 }
 
 // Gives v so many steps, if it has none yet, and notes it.
-fn mark(
-    table: &mut [u16],
-    next: &mut Vec<usize>,
-    v: usize,
-    steps: u16,
-) -> Result<(), AllocError>
+fn mark(table: &mut [u16], next: &mut Vec<usize>, v: usize, steps: u16) -> Result<(), AllocError>
     requires inside { v < length table.old }
     requires some { 0 < steps }
     ensures { OnOk result (Marked steps v table.old next.old.items table.new next.new.items) }
@@ -91,11 +86,7 @@ impl Search<'_> {
     }
 
     // The distances back to the start that are below top.
-    pub(crate) fn measure(
-        &self,
-        heap: Global,
-        table: &mut [u16],
-    ) -> Result<(), AllocError>
+    pub(crate) fn measure(&self, heap: Global, table: &mut [u16]) -> Result<(), AllocError>
         requires long { length table.old ≡ length self.now.links.now.of.items }
         ensures { OnOk result (Measured self.now.links.now.of.items self.now.start self.now.top table.new) }
     {

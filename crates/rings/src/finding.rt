@@ -51,11 +51,7 @@ fn better(
 }
 
 // The best of all starts.
-fn shortest(
-    heap: Global,
-    links: &Links,
-    table: &mut [u16],
-) -> Result<Option<Best>, AllocError>
+fn shortest(heap: Global, links: &Links, table: &mut [u16]) -> Result<Option<Best>, AllocError>
     requires long { length table.old ≡ length links.now.of.items }
     ensures { IfOk result (Shortest (In links.now.of.items) (length links.now.of.items) (length links.now.of.items)) }
 {

@@ -14,22 +14,13 @@ impl Search<'_> {
         requires some { Some_next self.now.links.now.of.items table.now self.now.start v k }
         ensures { Lowest self.now.links.now.of.items table.now self.now.start v k result }
     {
-        for u in self.start..table.len() {
-            if table[u] == k && self.links.leads(v, u) {
-                return u;
-            }
-        }
-        table.len()
+        (self.start..table.len())
+            .find(|u| table[*u] == k && self.links.leads(v, *u))
+            .unwrap()
     }
 
     // Goes from v along the distances, always to the lowest next number, until the start is one step away.
-    fn go_on(
-        &self,
-        table: &[u16],
-        v: usize,
-        k: u16,
-        out: &mut Vec<usize>,
-    ) -> Result<(), AllocError>
+    fn go_on(&self, table: &[u16], v: usize, k: u16, out: &mut Vec<usize>) -> Result<(), AllocError>
         requires measured { Measured self.now.links.now.of.items self.now.start self.now.top table.now }
         requires going { Going self.now.links.now.of.items table.now self.now.start self.now.top v k out.old.items }
         ensures { OnOk result (Greedy (In self.now.links.now.of.items) self.now.start (far table.now self.now.top) self.now.start out.new.items × (1 + length out.new.items ≡ far table.now self.now.top self.now.start)) }
