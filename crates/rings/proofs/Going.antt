@@ -2,7 +2,7 @@
 use Rattle.std.proofs.Common.{◌≡◌, ℕ, zero, suc, ◌+◌, ◌-◌, ◌<◌, ◌≤◌, List, [], ◌∷◌, ◌++◌, length, Some, None, Option, get_or, refl, inl, inr, subst, arith, length-append}
 use Rattle.rings.specs.declared.links.Link.{Link}
 use Rattle.rings.specs.RingSearch.{Greedy, Toward}
-use Rattle.rings.specs.Links.{In, far_of, far, Some_next, Lowest, Measured, Going}
+use Rattle.rings.specs.Links.{In, far_of, far, SomeNext, Lowest, Measured, Going}
 use Rattle.std.specs.Option.{MatchOption}
 use Rattle.rings.proofs.Comparing.{le_or_lt}
 use Rattle.rings.proofs.Levels.{far_some}
@@ -21,7 +21,7 @@ module _ (links : List Link) (table : List ℕ) (s v k : ℕ) where
   abbrev pub IsNot : ℕ → Type 0
   IsNot u = In links v u → get_or table u 0 ≡ k → ⊥
 
-  pub found_next : (last : ℕ) (r : Option ℕ) → last ≡ length links → Some_next links table s v k → MatchOption r ((u : ℕ) → s ≤ u → u < last → IsNot u) (λ i. (s ≤ i) × (i < last) × Is i × ((u : ℕ) → s ≤ u → u < i → IsNot u)) → (w : ℕ) × (r ≡ Some w) × Lowest links table s v k w
+  pub found_next : (last : ℕ) (r : Option ℕ) → last ≡ length links → SomeNext links table s v k → MatchOption r ((u : ℕ) → s ≤ u → u < last → IsNot u) (λ i. (s ≤ i) × (i < last) × Is i × ((u : ℕ) → s ≤ u → u < i → IsNot u)) → (w : ℕ) × (r ≡ Some w) × Lowest links table s v k w
   found_next last None e some none = absurd (none some.0 some.1 (omega (arith, some.2.1)) some.2 some.3)
   found_next last (Some i) e some (a, b, c, d) =
       (i, refl, record { from = a; step = c.0; here = c.1; least = λ u h j f. elim (le_or_lt i u) [ inl le ↦ le | inr lt ↦ absurd (d u h lt j f) ] })
@@ -40,7 +40,7 @@ module _ (links : List Link) (table : List ℕ) (s top : ℕ) (m : Measured link
       }
 
   module _ (v k : ℕ) (xs : List ℕ) (g : Going links table s top v k xs) where
-    pub going_some : 1 < k → Some_next links table s v (k - 1)
+    pub going_some : 1 < k → SomeNext links table s v (k - 1)
     going_some h =
         let w = exact_next (In links) s top (far table top) m.exact v (k - 1 - 1) g.from (omega (arith, g.here)) (omega (arith, g.here, g.low)) in
         (w.0, w.1, w.2, entry_is top (get_or table w.0 0) (k - 1) (omega (arith, w.3)) (omega (arith, g.low)))

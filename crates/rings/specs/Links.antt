@@ -30,8 +30,8 @@ abbrev pub Below : ℕ → ℕ → List ℕ → Type 0
 Below s top table = (v : ℕ) → s ≤ v → slice_index table v < top
 
 -- a next number of v that is k steps from s, and the lowest of them
-abbrev pub Some_next : List Link → List ℕ → ℕ → ℕ → ℕ → Type 0
-Some_next links table s v k = (w : ℕ) × (s ≤ w) × In links v w × (slice_index table w ≡ k)
+abbrev pub SomeNext : List Link → List ℕ → ℕ → ℕ → ℕ → Type 0
+SomeNext links table s v k = (w : ℕ) × (s ≤ w) × In links v w × (slice_index table w ≡ k)
 
 pub record Lowest (links : List Link) (table : List ℕ) (s v k r : ℕ) : Type 0 where
   pub from : s ≤ r

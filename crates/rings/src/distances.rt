@@ -5,8 +5,9 @@ ghost use Rattle.rings.specs.Links.{Marked, Into, Leveled, Measured};
 use crate::links::Links;
 use std::alloc::{AllocError, Global};
 
-// A search for the steps from each number back to a start, where fewer than top. Only numbers from the start on are gone through.
-// In its table a number has its steps once they are known, and 0 before: options in it made the way back twice as slow.
+// A search for the steps from each number back to a start, where fewer than top, past numbers from the start on alone.
+// The table is lent beside it, as it is written while the links are read. In it a number has its steps once they are
+// known, and 0 before: options there made the way back twice as slow.
 #[derive(Clone, Copy)]
 pub(crate) struct Search<'a> {
     pub(crate) links: &'a Links,

@@ -38,9 +38,9 @@ impl Numbers<'_> {
     {
         let mut places = Vec::new(heap);
         let mut begins = Counts::none();
-        for i in 0..run.count {
+        for (i, did) in run.did.of[..run.count].iter().enumerate() {
             begins = begins.with(i, places.len() as u16);
-            push_machine(&mut places, i as u8, run.did.of[i])?;
+            push_machine(&mut places, i as u8, *did)?;
         }
         Ok(Numbers {
             run,
@@ -55,6 +55,7 @@ impl Numbers<'_> {
         requires doing { place.doing ≤ counts_of self.now.run.now.did place.machine }
         ensures { result ≡ link_of self.now.run.now self.now.begins place }
     {
+        // No `map`: its closure would need clauses, longer than the match.
         let letter = match self.run.sending(place.machine as usize, place.doing) {
             None => None,
             Some(sent) => Some(

@@ -1,7 +1,7 @@
 // The lowest way back to a start along its distances.
 ghost use Rattle.std.specs.Prelude.{◌≡◌, ◌+◌, ◌<◌, length, IfOk, OnOk};
 ghost use Rattle.rings.specs.RingSearch.{Greedy};
-ghost use Rattle.rings.specs.Links.{In, far, Some_next, Lowest, Measured, Going};
+ghost use Rattle.rings.specs.Links.{In, far, SomeNext, Lowest, Measured, Going};
 
 use crate::distances::Search;
 use std::alloc::{AllocError, Global};
@@ -11,7 +11,7 @@ impl Search<'_> {
     fn lowest_next(&self, table: &[u16], v: usize, k: u16) -> usize
         requires long { length table.now ≡ length self.now.links.now.of.items }
         requires inside { v < length self.now.links.now.of.items }
-        requires some { Some_next self.now.links.now.of.items table.now self.now.start v k }
+        requires some { SomeNext self.now.links.now.of.items table.now self.now.start v k }
         ensures { Lowest self.now.links.now.of.items table.now self.now.start v k result }
     {
         (self.start..table.len())
@@ -33,7 +33,7 @@ impl Search<'_> {
         self.go_on(table, w, k - 1, out)
     }
 
-    // The numbers after the start on the lowest ring of those with the fewest numbers that begin with it, which is so many steps long.
+    // The numbers after the start on the lowest ring of the fewest numbers that begin with it, which is so many steps long.
     pub(crate) fn way_back(
         &self,
         heap: Global,

@@ -1,4 +1,4 @@
-use Rattle.std.proofs.Common.{◌≡◌, ℕ, ◌-◌, ◌≤◌, length, get_or, List, Option, Vec, Global, None, sym, ap, ◌∙◌, subst, vec_items, arith, rules}
+use Rattle.std.proofs.Common.{◌≡◌, ℕ, ◌-◌, ◌≤◌, length, get_or, List, Option, Vec, Global, sym, ap, ◌∙◌, subst, vec_items, arith, rules}
 use borrow.Rule.Slice.PartMut.{put_mid, same_len_mid}
 use Rattle.rings.specs.Links.{SentFrom, Leveled}
 use Rattle.rings.proofs.Begin.{blank_from, begin_none, begin_one}
