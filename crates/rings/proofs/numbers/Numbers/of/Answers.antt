@@ -2,11 +2,8 @@ use Rattle.std.proofs.Common.{ℕ, ◌<◌, ◌++◌, length, vec_items, get_or-
 use Rattle.std.proofs.lemmas.List.{length-take}
 use Rattle.runs.specs.Model.{counts_of}
 use Rattle.rings.specs.Numbers.{places_of}
-use Rattle.rings.proofs.Numbered.{in_long, numbered_none, numbered_more}
+use Rattle.rings.proofs.Numbered.{in_long, numbered_more}
 use Rattle.rings.proofs.numbers.Numbers.of.Goals as goal
-
-pub loop-i-init : goal.loop-i-init
-loop-i-init c = numbered_none c.args.run.now (vec_items c.new-places.result) c.none-begins.result c.new-places.ensures.items
 
 pub overflow_cast-len : goal.overflow_cast-len
 overflow_cast-len c =
