@@ -17,3 +17,4 @@ mod Numbered
 mod Same
 mod Whole
 mod Comparing
+mod Linking

@@ -1,16 +1,16 @@
 -- Doings numbered machine by machine.
-use Rattle.std.proofs.Common.{◌≡◌, ℕ, zero, suc, ◌+◌, ◌-◌, ◌*◌, ◌<◌, ◌≤◌, Bool, false, ltb, List, [], ◌∷◌, ◌++◌, length, get_or, set, sym, refl, ap, ◌∙◌, subst, ⊎_elim, append_assoc, append-nil, add-one, arith, length-append, below_more}
+use Rattle.std.proofs.Common.{◌≡◌, ℕ, zero, suc, ◌+◌, ◌-◌, ◌*◌, ◌<◌, ◌≤◌, List, [], ◌∷◌, ◌++◌, length, get_or, set, sym, refl, ap, ◌∙◌, subst, ⊎_elim, append_assoc, append-nil, add-one, arith, length-append, below_more}
 use Rattle.std.proofs.lemmas.List.{get_or_append_left, get_or-append-add, get_or_at}
 use Rattle.std.proofs.lemmas.Bool.{cases_eq}
 use Rattle.records.specs.declared.place.Place.{Place}
 use Rattle.runs.specs.declared.counts.Counts.{Counts}
 use Rattle.runs.specs.declared.run.Run as code
 use Rattle.runs.specs.Run.{Run}
-use Rattle.runs.specs.Model.{counts_of, sending_of, run_of}
+use Rattle.runs.specs.Model.{counts_of, run_of}
 use Rattle.runs.proofs.Places.{set_here, set_rest}
 use Rattle.rings.specs.RingSearch.{Flat, Filled}
 use Rattle.letters.specs.Noting.{place as at}
-use Rattle.rings.specs.Numbers.{places_of, places_in, NumberedTo, Numbered, place_of, number_of, LinkedTo}
+use Rattle.rings.specs.Numbers.{places_of, places_in, NumberedTo, Numbered, place_of, number_of}
 use Rattle.rings.proofs.Numbering.{filled_none, filled_push, filled_machine, filled_flat}
 
 of_long : (i m : ℕ) → length (places_of i m) ≡ m
@@ -91,22 +91,12 @@ flat r places begins h =
     subst P (sym h.items) (flat_in (run_of r))
 
 -- where a doing stands
-pub number_at : (r : code.Run) (places : List Place) (begins : Counts) → Numbered r places begins → (i k : ℕ) → i < r.count → 1 ≤ k → k ≤ counts_of r.did i → (counts_of begins i + k - 1 < length places) × (place_of places (counts_of begins i + k - 1) ≡ at i k)
+pub number_at : (r : code.Run) (places : List Place) (begins : Counts) → Numbered r places begins → (i k : ℕ) → i < r.count → 1 ≤ k → k ≤ counts_of r.did i → (number_of begins (at i k) < length places) × (place_of places (number_of begins (at i k)) ≡ at i k)
 number_at r places begins h i k lt one le =
     let P : List Place → Type 0 = λ x. (counts_of begins i + k - 1 < length x) × (place_of x (counts_of begins i + k - 1) ≡ at i k) in
     let Q : ℕ → Type 0 = λ b. (b + k - 1 < length (places_in (counts_of r.did) r.count)) × (place_of (places_in (counts_of r.did) r.count) (b + k - 1) ≡ at i k) in
     subst P (sym h.items) (subst Q (sym (h.begin i lt)) (in_at (counts_of r.did) r.count i k lt one le))
 
--- steps noted number by number
-pub linked_none : (r : code.Run) (places : List Place) (begins : Counts) (was : List Bool) (by : List ℕ) → was ≡ [] → by ≡ [] → LinkedTo r places begins 0 was by
-linked_none r places begins was by e f = record { flags = ap length e; senders = ap length f; own = λ w lt. absurd (omega arith); letter = λ w lt. absurd (omega arith) }
-
-pub linked_more : (r : code.Run) (places : List Place) (begins : Counts) (n : ℕ) (was was' : List Bool) (by by' : List ℕ) (x : Bool) (y : ℕ) → LinkedTo r places begins n was by → was' ≡ was ++ (x ∷ []) → by' ≡ by ++ (y ∷ [])
-    → x ≡ ltb 1 (place_of places n).doing → y ≡ number_of begins (length places) (sending_of r (place_of places n).machine (place_of places n).doing) → LinkedTo r places begins (n + 1) was' by'
-linked_more r places begins n was was' by by' x y h e f x-is y_is =
-    record {
-      flags = omega (arith, h.flags, ap length e, length-append was (x ∷ []));
-      senders = omega (arith, h.senders, ap length f, length-append by (y ∷ []));
-      own = below_more _ n (λ w lt. ap (λ (z : List Bool). get_or z w false) e ∙ get_or_append_left was (x ∷ []) false w (omega (arith, h.flags)) ∙ h.own w lt) (ap (λ (z : List Bool). get_or z n false) e ∙ get_or_at was x [] false n h.flags ∙ x-is);
-      letter = below_more _ n (λ w lt. ap (λ (z : List ℕ). get_or z w 0) f ∙ get_or_append_left by (y ∷ []) 0 w (omega (arith, h.senders)) ∙ h.letter w lt) (ap (λ (z : List ℕ). get_or z n 0) f ∙ get_or_at by y [] 0 n h.senders ∙ y_is);
-    }
+-- few enough for the search
+pub places_few : (r : code.Run) (places : List Place) (begins : Counts) → Numbered r places begins → length places ≤ 20000
+places_few r places begins h = omega (arith, ap length h.items, in_long (counts_of r.did) r.count (λ i lt. r.few i lt), r.most)

@@ -1,10 +1,11 @@
 -- The lowest ring among numbers, from tables of distances: what a program that searches for it has to have.
 -- E v w: there is a step from v to w. Numbers stand for places, in their order.
-use Rattle.std.proofs.Common.{◌≡◌, ℕ, ◌+◌, ◌<◌, ◌≤◌, ◌⊎◌, List, [], ◌∷◌, length, sym, refl, subst, inl, inr, arith}
+use Rattle.std.proofs.Common.{◌≡◌, ℕ, ◌+◌, ◌<◌, ◌≤◌, List, [], ◌∷◌, length, sym, refl, subst, inl, inr, arith}
 use mathlib.Core.List.Memᴰ
 use mathlib.Core.List.{Memᴰ}
 use native.Mathlib.Decide.{ℕ_discrete}
 use Rattle.rings.specs.RingSearch.{Walk, Round, From, AtLeast, Table, Greedy, Found}
+use Rattle.rings.proofs.Comparing.{le_or_lt}
 use Rattle.rings.proofs.Walk.{turned}
 
 -- the place from which a walk comes back
@@ -32,13 +33,10 @@ pub bottom : (p : ℕ) (ps : List ℕ) → (t : ℕ) × Memᴰ t (p ∷ ps) × F
 bottom p [] = (p, Memᴰ.head refl, (omega arith, tt))
 bottom p (q ∷ qs) =
     let z = bottom q qs in
-    elim (under z.0 p) [
+    elim (le_or_lt z.0 p) [
       | inl h ↦ (z.0, Memᴰ.tail z.1, (h, z.2))
       | inr h ↦ (p, Memᴰ.head refl, (omega arith, from_all p (q ∷ qs) (λ x m. omega (arith, h, all_from z.0 (q ∷ qs) z.2 m))))
     ]
-  where
-    under : (m n : ℕ) → (m ≤ n) ⊎ (n < m)
-    under m n = grind arith
 
 module _ (E : ℕ → ℕ → Type 0) where
   pub table_under : (s : ℕ) (d : ℕ → ℕ) → Table E s d → (v : ℕ) (qs : List ℕ) → s ≤ v → From s qs → Walk E v qs s → d v ≤ 1 + length qs
@@ -86,7 +84,7 @@ module _ (E : ℕ → ℕ → Type 0) where
   found_lowest s ws x [] w e = absurd w
   found_lowest s ws x (q ∷ qs) w e =
       let z = lowered (q ∷ qs) w in
-      elim (under s z.0) [
+      elim (le_or_lt s z.0) [
         | inr h ↦ absurd (omega (arith, z.3, x.first z.0 h z.1 z.4 z.2))
         | inl h ↦
             let f : From s (q ∷ qs) = from_all s (q ∷ qs) (λ y m. omega (arith, h, all_from z.0 (q ∷ qs) z.5 m)) in
@@ -95,6 +93,3 @@ module _ (E : ℕ → ℕ → Type 0) where
               | yes k ↦ subst (λ y. Lower (s ∷ ws) (y ∷ qs)) k (Lower.equal (greedy_lower s x.d x.table s ws qs x.goes f.1 (subst (λ y. Walk E y qs y) (sym k) w) (omega arith)))
             ]
       ]
-    where
-      under : (m n : ℕ) → (m ≤ n) ⊎ (n < m)
-      under m n = grind arith

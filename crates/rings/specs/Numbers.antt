@@ -1,11 +1,12 @@
--- Doings by number, in order of machine, then doing, and the steps between them as arrays say them.
+-- Doings by number, in order of machine, then doing, and what leads to them.
 -- Assumes nothing.
-use Rattle.std.specs.Prelude.{◌≡◌, ℕ, zero, suc, ◌+◌, ◌-◌, ◌<◌, Bool, false, List, [], ◌∷◌, ◌++◌, length, Some, None, Option, nat_lt, slice_index, slice_index_or}
+use Rattle.std.specs.Prelude.{◌≡◌, ℕ, zero, suc, ◌+◌, ◌-◌, ◌<◌, List, [], ◌∷◌, ◌++◌, length, nat_lt, option_map, slice_index_or}
 use Rattle.records.specs.declared.place.Place.{Place}
 use Rattle.letters.specs.Noting.{place as at}
 use Rattle.runs.specs.declared.counts.Counts.{Counts}
 use Rattle.runs.specs.declared.run.Run.{Run}
 use Rattle.runs.specs.Model.{counts_of, sending_of}
+use Rattle.rings.specs.declared.links.Link.{Link}
 
 -- the first m doings of machine i, and all of the first so many machines
 abbrev pub places_of : ℕ → ℕ → List Place
@@ -27,14 +28,9 @@ Numbered r = NumberedTo r r.count
 abbrev pub place_of : List Place → ℕ → Place
 place_of places w = slice_index_or places w (at 0 0)
 
--- the number of where a letter was sent; how many numbers there are if none was got
-abbrev pub number_of : Counts → ℕ → Option Place → ℕ
-number_of begins size None = size
-number_of begins size (Some p) = counts_of begins p.machine + p.doing - 1
+abbrev pub number_of : Counts → Place → ℕ
+number_of begins p = counts_of begins p.machine + p.doing - 1
 
--- of the first n numbers
-pub record LinkedTo (r : Run) (places : List Place) (begins : Counts) (n : ℕ) (was : List Bool) (by : List ℕ) : Type 0 where
-  pub flags : length was ≡ n
-  pub senders : length by ≡ n
-  pub own : (w : ℕ) → w < n → slice_index_or was w false ≡ nat_lt 1 (place_of places w).doing
-  pub letter : (w : ℕ) → w < n → slice_index by w ≡ number_of begins (length places) (sending_of r (place_of places w).machine (place_of places w).doing)
+-- the machine's doing before, and the number of where the letter was sent, if one was got
+abbrev pub link_of : Run → Counts → Place → Link
+link_of r begins p = record { own = nat_lt 1 p.doing; letter = option_map (number_of begins) (sending_of r p.machine p.doing) }

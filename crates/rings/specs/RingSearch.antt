@@ -86,7 +86,6 @@ module _ (E : ℕ → ℕ → Type 0) where
     pub right : (v : ℕ) → Memᴰ v next → (s ≤ v) × (f v ≡ k + 1)
 
   -- The starts below t have been gone through: no ring from one of them has fewer than l numbers, nor from one before s as few.
-  -- While no ring is known, s is 0 and l is one more than the numbers that there are.
   pub record Best (t s l : ℕ) : Type 0 where
     pub before : s ≤ t
     pub least : (u : ℕ) → u < t → AtLeast u l

@@ -1,132 +1,102 @@
 // Distances back to a start, level by level (breadth-first search).
-ghost use Rattle.std.specs.Prelude.{◌≡◌, ℕ, ◌+◌, ◌^◌, ◌<◌, Bool, List, [], length, IfOk, OnOk};
-ghost use Rattle.rings.specs.RingSearch.{Level, Exact};
-ghost use Rattle.rings.specs.Links.{In, far, Marked, Into, Fit, Frontier};
+ghost use Rattle.std.specs.Prelude.{◌≡◌, ℕ, ◌+◌, ◌<◌, ◌^◌, length, IfOk, OnOk};
+ghost use Rattle.rings.specs.Links.{Marked, Into, Leveled, Measured};
 
+use crate::links::Links;
 use std::alloc::{AllocError, Global};
 
-// Gives v the distance after k, if it has none yet, and notes it.
-fn mark(
-    dist: &mut [usize],
-    next: &mut Vec<usize>,
-    v: usize,
-    top: usize,
-    k: usize,
-) -> Result<(), AllocError>
-    requires { (v < length dist.old) × (k + 1 < top) × (top < 2 ^ 64) }
-    ensures { OnOk result (Marked top k v dist.old next.old.items dist.new next.new.items) }
+// A search for the steps from each number back to a start, where fewer than top, past numbers from the start on alone.
+// The table is lent beside it, as it is written while the links are read. In it a number has its steps once they are
+// known, and 0 before: options there made the way back twice as slow.
+#[derive(Clone, Copy)]
+pub(crate) struct Search<'a> {
+    pub(crate) links: &'a Links,
+    pub(crate) start: usize,
+    pub(crate) top: u16,
+    ghost inside: { start < length links.now.of.items },
+    ghost low: { 1 < top },
+    ghost small: { top < 2 ^ 16 },
+}
+
+// Gives v so many steps, if it has none yet, and notes it.
+fn mark(table: &mut [u16], next: &mut Vec<usize>, v: usize, steps: u16) -> Result<(), AllocError>
+    requires inside { v < length table.old }
+    requires some { 0 < steps }
+    ensures { OnOk result (Marked steps v table.old next.old.items table.new next.new.items) }
 {
-    if dist[v] == top {
+    if table[v] == 0 {
         next.push(v)?;
-        dist[v] = k + 1;
+        table[v] = steps;
     }
     Ok(())
 }
 
-// Marks the numbers from which a step leads to w, from s on.
-fn into(
-    was: &[bool],
-    by: &[usize],
-    dist: &mut [usize],
-    next: &mut Vec<usize>,
-    s: usize,
-    top: usize,
-    k: usize,
-    w: usize,
-) -> Result<(), AllocError>
-    requires fit { Fit was.now by.now dist.old top k }
-    requires inside { w < length by.now }
-    ensures { OnOk result (Into was.now by.now s top k w dist.old next.old.items dist.new next.new.items) }
-{
-    if was[w] && s < w {
-        mark(dist, next, w - 1, top, k)?;
+impl Search<'_> {
+    // Gives so many steps to the numbers from which a step leads to w.
+    fn into(
+        &self,
+        table: &mut [u16],
+        next: &mut Vec<usize>,
+        w: usize,
+        steps: u16,
+    ) -> Result<(), AllocError>
+        requires long { length table.old ≡ length self.now.links.now.of.items }
+        requires inside { w < length self.now.links.now.of.items }
+        requires some { 0 < steps }
+        ensures { OnOk result (Into self.now.links.now.of.items self.now.start steps w table.old next.old.items table.new next.new.items) }
+    {
+        if self.links.of[w].own && self.start < w {
+            mark(table, next, w - 1, steps)?;
+        }
+        if let Some(v) = self.links.sent_from(self.start, w) {
+            mark(table, next, v, steps)?;
+        }
+        Ok(())
     }
-    let v = by[w];
-    if v < by.len() && s <= v {
-        mark(dist, next, v, top, k)?;
-    }
-    Ok(())
-}
 
-// One level more: from those at distance k to those at k + 1.
-fn level(
-    was: &[bool],
-    by: &[usize],
-    dist: &mut [usize],
-    s: usize,
-    top: usize,
-    k: usize,
-    at_k: &[usize],
-    next: &mut Vec<usize>,
-) -> Result<(), AllocError>
-    requires fit { Fit was.now by.now dist.old top k }
-    requires level { Level (In was.now by.now) s top k (far dist.old top) }
-    requires frontier { Frontier s k (far dist.old top) at_k.now }
-    requires empty { next.old.items ≡ [] }
-    ensures { OnOk result (Level (In was.now by.now) s top (k + 1) (far dist.new top) × Frontier s (k + 1) (far dist.new top) next.new.items) }
-{
-    for j in 0..at_k.len() {
-        into(was, by, dist, next, s, top, k, at_k[j])?;
-    }
-    Ok(())
-}
-
-// No distance is known yet.
-fn reset(dist: &mut [usize], top: usize)
-    ensures { (v : ℕ) → far dist.new top v ≡ top }
-{
-    for v in 0..dist.len() {
-        dist[v] = top;
-    }
-}
-
-// The first level: what is one step from s, and not lower.
-fn begin(
-    heap: Global,
-    by: &[usize],
-    dist: &mut [usize],
-    s: usize,
-    top: usize,
-) -> Result<Vec<usize>, AllocError>
-    requires dists { length dist.old ≡ length by.now }
-    requires inside { s < length by.now }
-    requires low { 1 < top }
-    ensures { IfOk result (λ x. (was : List Bool) → Level (In was by.now) s top 1 (far dist.new top) × Frontier s 1 (far dist.new top) x.items) }
-{
-    reset(dist, top);
-    let mut first = Vec::new(heap);
-    let v = by[s];
-    if v < s || v >= by.len() {
-        return Ok(first);
-    }
-    dist[v] = 1;
-    first.push(v)?;
-    Ok(first)
-}
-
-// The distances back to s that are below top, and top for all others.
-pub(crate) fn measure(
-    heap: Global,
-    was: &[bool],
-    by: &[usize],
-    dist: &mut [usize],
-    s: usize,
-    top: usize,
-) -> Result<(), AllocError>
-    requires flags { length was.now ≡ length by.now }
-    requires dists { length dist.old ≡ length by.now }
-    requires inside { s < length by.now }
-    requires low { 1 < top }
-    requires small { top < 2 ^ 64 }
-    ensures { OnOk result (Exact (In was.now by.now) s top (far dist.new top)) }
-{
-    let mut at_k = begin(heap, by, dist, s, top)?;
-    let mut k = 1;
-    while k + 1 < top && !at_k.is_empty() {
+    // One level more: from those at distance k to those at k + 1.
+    fn level(
+        &self,
+        heap: Global,
+        table: &mut [u16],
+        k: u16,
+        at_k: &[usize],
+    ) -> Result<Vec<usize>, AllocError>
+        requires leveled { Leveled self.now.links.now.of.items self.now.start self.now.top k table.old at_k.now }
+        requires next { k + 1 < self.now.top }
+        ensures { IfOk result (λ x. Leveled self.now.links.now.of.items self.now.start self.now.top (k + 1) table.new x.items) }
+    {
         let mut next = Vec::new(heap);
-        level(was, by, dist, s, top, k, &at_k, &mut next)?;
-        at_k = next;
-        k += 1;
+        for w in at_k {
+            self.into(table, &mut next, *w, k + 1)?;
+        }
+        Ok(next)
     }
-    Ok(())
+
+    // The first level: what is one step from the start, and not lower.
+    fn begin(&self, heap: Global, table: &mut [u16]) -> Result<Vec<usize>, AllocError>
+        requires long { length table.old ≡ length self.now.links.now.of.items }
+        ensures { IfOk result (λ x. Leveled self.now.links.now.of.items self.now.start self.now.top 1 table.new x.items) }
+    {
+        table[self.start..].fill(0);
+        let mut first = Vec::new(heap);
+        if let Some(v) = self.links.sent_from(self.start, self.start) {
+            mark(table, &mut first, v, 1)?;
+        }
+        Ok(first)
+    }
+
+    // The distances back to the start that are below top.
+    pub(crate) fn measure(&self, heap: Global, table: &mut [u16]) -> Result<(), AllocError>
+        requires long { length table.old ≡ length self.now.links.now.of.items }
+        ensures { OnOk result (Measured self.now.links.now.of.items self.now.start self.now.top table.new) }
+    {
+        let mut at_k = self.begin(heap, table)?;
+        let mut k = 1;
+        while k + 1 < self.top && !at_k.is_empty() {
+            at_k = self.level(heap, table, k, &at_k)?;
+            k += 1;
+        }
+        Ok(())
+    }
 }

@@ -1,18 +1,17 @@
 // The shortest rings, start by start.
-ghost use Rattle.std.specs.Prelude.{◌≡◌, ◌+◌, ◌<◌, ◌≤◌, length, IfOk};
+ghost use Rattle.std.specs.Prelude.{◌≡◌, ◌+◌, ◌<◌, length, IfOk};
 ghost use Rattle.rings.specs.Links.{In};
-ghost use Rattle.rings.specs.Shortest.{Shortest, FoundRing, Searched};
+ghost use Rattle.rings.specs.Shortest.{Shortest, Searched};
 
-use crate::distances::measure;
-use crate::way::way_back;
+use crate::distances::Search;
+use crate::links::Links;
 use std::alloc::{AllocError, Global};
 
-// Of the starts gone through, the first with a ring of the fewest numbers, and how many those are; one more than there are
-// numbers while there is none.
+// Of the starts gone through, the first with a ring of the fewest numbers, and how many those are.
 #[derive(Clone, Copy)]
 pub(crate) struct Best {
     pub(crate) start: usize,
-    pub(crate) fewest: usize,
+    pub(crate) fewest: u16,
 }
 
 // A ring by its lowest number and those after it.
@@ -25,90 +24,60 @@ pub(crate) struct Found {
 // Looks at the rings that begin with t, none of whose numbers is lower.
 fn better(
     heap: Global,
-    was: &[bool],
-    by: &[usize],
-    dist: &mut [usize],
-    best: Best,
+    links: &Links,
+    table: &mut [u16],
+    best: Option<Best>,
     t: usize,
-) -> Result<Best, AllocError>
-    requires flags { length was.now ≡ length by.now }
-    requires dists { length dist.old ≡ length by.now }
-    requires few { length by.now ≤ 20000 }
-    requires here { t < length by.now }
-    requires shortest { Shortest (In was.now by.now) (length by.now) t best }
-    ensures { IfOk result (Shortest (In was.now by.now) (length by.now) (t + 1)) }
+) -> Result<Option<Best>, AllocError>
+    requires long { length table.old ≡ length links.now.of.items }
+    requires here { t < length links.now.of.items }
+    requires shortest { Shortest (In links.now.of.items) (length links.now.of.items) t best }
+    ensures { IfOk result (Shortest (In links.now.of.items) (length links.now.of.items) (t + 1)) }
 {
-    let v = by[t];
-    if v < t || v >= by.len() {
+    let top = best.map_or(links.of.len() as u16 + 1, |best| best.fewest);
+    if top <= 1 || links.sent_from(t, t).is_none() {
         return Ok(best);
     }
-    if best.fewest <= 1 {
-        return Ok(best);
+    Search {
+        links,
+        start: t,
+        top,
     }
-    measure(heap, was, by, dist, t, best.fewest)?;
-    let fewest = dist[t];
-    if fewest >= best.fewest {
-        return Ok(best);
+    .measure(heap, table)?;
+    match table[t] {
+        0 => Ok(best),
+        fewest => Ok(Some(Best { start: t, fewest })),
     }
-    Ok(Best { start: t, fewest })
 }
 
 // The best of all starts.
-fn shortest(
-    heap: Global,
-    was: &[bool],
-    by: &[usize],
-    dist: &mut [usize],
-) -> Result<Best, AllocError>
-    requires flags { length was.now ≡ length by.now }
-    requires dists { length dist.old ≡ length by.now }
-    requires few { length by.now ≤ 20000 }
-    ensures { IfOk result (Shortest (In was.now by.now) (length by.now) (length by.now)) }
+fn shortest(heap: Global, links: &Links, table: &mut [u16]) -> Result<Option<Best>, AllocError>
+    requires long { length table.old ≡ length links.now.of.items }
+    ensures { IfOk result (Shortest (In links.now.of.items) (length links.now.of.items) (length links.now.of.items)) }
 {
-    let mut best = Best {
-        start: 0,
-        fewest: by.len() + 1,
-    };
-    for t in 0..by.len() {
-        best = better(heap, was, by, dist, best, t)?;
+    let mut best = None;
+    for t in 0..links.of.len() {
+        best = better(heap, links, table, best, t)?;
     }
     Ok(best)
 }
 
-// The lowest ring from the best start.
-fn from_start(
-    heap: Global,
-    was: &[bool],
-    by: &[usize],
-    dist: &mut [usize],
-    best: Best,
-) -> Result<Found, AllocError>
-    requires flags { length was.now ≡ length by.now }
-    requires dists { length dist.old ≡ length by.now }
-    requires few { length by.now ≤ 20000 }
-    requires known { best.fewest ≤ length by.now }
-    requires shortest { Shortest (In was.now by.now) (length by.now) (length by.now) best }
-    ensures { IfOk result (FoundRing (In was.now by.now)) }
-{
-    measure(heap, was, by, dist, best.start, best.fewest + 1)?;
-    let rest = way_back(heap, was, by, dist, best.start, best.fewest + 1)?;
-    Ok(Found {
-        start: best.start,
-        rest,
-    })
-}
-
 // The lowest of the rings with the fewest numbers, if there is a ring.
-pub(crate) fn lowest(heap: Global, was: &[bool], by: &[usize]) -> Result<Option<Found>, AllocError>
-    requires flags { length was.now ≡ length by.now }
-    requires few { length by.now ≤ 20000 }
-    ensures { IfOk result (Searched (In was.now by.now) (length by.now)) }
+pub(crate) fn lowest(heap: Global, links: &Links) -> Result<Option<Found>, AllocError>
+    ensures { IfOk result (Searched (In links.now.of.items) (length links.now.of.items)) }
 {
-    let mut dist = vec![in heap; 0; by.len()]?;
-    let best = shortest(heap, was, by, &mut dist)?;
-    if best.fewest > by.len() {
+    let mut table = vec![in heap; 0; links.of.len()]?;
+    let table = table.as_mut_slice();
+    let Some(best) = shortest(heap, links, table)? else {
         return Ok(None);
-    }
-    let found = from_start(heap, was, by, &mut dist, best)?;
-    Ok(Some(found))
+    };
+    let Best { start, fewest } = best;
+    let search = Search {
+        links,
+        start,
+        top: fewest + 1,
+    };
+    search.measure(heap, table)?;
+    let rest = search.way_back(heap, table, fewest)?;
+    Ok(Some(Found { start, rest }))
 }

@@ -3,6 +3,7 @@
 
 pub(crate) mod distances;
 pub(crate) mod finding;
+pub(crate) mod links;
 pub(crate) mod numbers;
 pub mod ring;
 pub(crate) mod way;

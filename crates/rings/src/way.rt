@@ -1,75 +1,52 @@
 // The lowest way back to a start along its distances.
-ghost use Rattle.std.specs.Prelude.{◌≡◌, ◌+◌, ◌<◌, T, length, IfOk, OnOk};
-ghost use Rattle.rings.specs.RingSearch.{Exact, Greedy};
-ghost use Rattle.rings.specs.Links.{In, far, Some, Lowest, Sizes, Going};
+ghost use Rattle.std.specs.Prelude.{◌≡◌, ◌+◌, ◌<◌, length, IfOk, OnOk};
+ghost use Rattle.rings.specs.RingSearch.{Greedy};
+ghost use Rattle.rings.specs.Links.{In, far, SomeNext, Lowest, Measured, Going};
 
+use crate::distances::Search;
 use std::alloc::{AllocError, Global};
 
-// Does a step lead from v to w.
-fn leads(was: &[bool], by: &[usize], v: usize, w: usize) -> bool
-    requires flags { length was.now ≡ length by.now }
-    requires from { v < length by.now }
-    requires to { w < length by.now }
-    ensures yes { T result → In was.now by.now v w }
-    ensures all { In was.now by.now v w → T result }
-{
-    by[w] == v || (was[w] && w == v + 1)
-}
+impl Search<'_> {
+    // The lowest number that a step from v leads to, of those that are k steps from the start.
+    fn lowest_next(&self, table: &[u16], v: usize, k: u16) -> usize
+        requires long { length table.now ≡ length self.now.links.now.of.items }
+        requires inside { v < length self.now.links.now.of.items }
+        requires some { SomeNext self.now.links.now.of.items table.now self.now.start v k }
+        ensures { Lowest self.now.links.now.of.items table.now self.now.start v k result }
+    {
+        (self.start..table.len())
+            .find(|u| table[*u] == k && self.links.leads(v, *u))
+            .unwrap()
+    }
 
-// The lowest number that a step from v leads to, of those that are k steps from s.
-fn lowest_next(was: &[bool], by: &[usize], dist: &[usize], s: usize, v: usize, k: usize) -> usize
-    requires sizes { Sizes was.now by.now dist.now v }
-    requires some { Some was.now by.now dist.now s v k }
-    ensures { Lowest was.now by.now dist.now s v k result }
-{
-    for u in s..by.len() {
-        if dist[u] == k && leads(was, by, v, u) {
-            return u;
+    // Goes from v along the distances, always to the lowest next number, until the start is one step away.
+    fn go_on(&self, table: &[u16], v: usize, k: u16, out: &mut Vec<usize>) -> Result<(), AllocError>
+        requires measured { Measured self.now.links.now.of.items self.now.start self.now.top table.now }
+        requires going { Going self.now.links.now.of.items table.now self.now.start self.now.top v k out.old.items }
+        ensures { OnOk result (Greedy (In self.now.links.now.of.items) self.now.start (far table.now self.now.top) self.now.start out.new.items × (1 + length out.new.items ≡ far table.now self.now.top self.now.start)) }
+    {
+        if k <= 1 {
+            return Ok(());
         }
+        let w = self.lowest_next(table, v, k - 1);
+        out.push(w)?;
+        self.go_on(table, w, k - 1, out)
     }
-    by.len()
-}
 
-// Goes from v along the distances, always to the lowest next number, until s is one step away.
-fn go_on(
-    was: &[bool],
-    by: &[usize],
-    dist: &[usize],
-    s: usize,
-    top: usize,
-    v: usize,
-    k: usize,
-    out: &mut Vec<usize>,
-) -> Result<(), AllocError>
-    requires sizes { Sizes was.now by.now dist.now s }
-    requires exact { Exact (In was.now by.now) s top (far dist.now top) }
-    requires going { Going was.now by.now dist.now s top v k out.old.items }
-    ensures { OnOk result (Greedy (In was.now by.now) s (far dist.now top) s out.new.items × (1 + length out.new.items ≡ far dist.now top s)) }
-{
-    if k <= 1 {
-        return Ok(());
+    // The numbers after the start on the lowest ring of the fewest numbers that begin with it, which is so many steps long.
+    pub(crate) fn way_back(
+        &self,
+        heap: Global,
+        table: &[u16],
+        steps: u16,
+    ) -> Result<Vec<usize>, AllocError>
+        requires measured { Measured self.now.links.now.of.items self.now.start self.now.top table.now }
+        requires reached { far table.now self.now.top self.now.start ≡ steps }
+        requires low { steps < self.now.top }
+        ensures { IfOk result (λ x. Greedy (In self.now.links.now.of.items) self.now.start (far table.now self.now.top) self.now.start x.items × (1 + length x.items ≡ far table.now self.now.top self.now.start)) }
+    {
+        let mut out = Vec::new(heap);
+        self.go_on(table, self.start, steps, &mut out)?;
+        Ok(out)
     }
-    let w = lowest_next(was, by, dist, s, v, k - 1);
-    out.push(w)?;
-    go_on(was, by, dist, s, top, w, k - 1, out)?;
-    Ok(())
-}
-
-// The numbers after s on the lowest ring of those with the fewest numbers that begin with s, the distances back to s being known.
-pub(crate) fn way_back(
-    heap: Global,
-    was: &[bool],
-    by: &[usize],
-    dist: &[usize],
-    s: usize,
-    top: usize,
-) -> Result<Vec<usize>, AllocError>
-    requires sizes { Sizes was.now by.now dist.now s }
-    requires exact { Exact (In was.now by.now) s top (far dist.now top) }
-    requires reached { far dist.now top s < top }
-    ensures { IfOk result (λ x. Greedy (In was.now by.now) s (far dist.now top) s x.items × (1 + length x.items ≡ far dist.now top s)) }
-{
-    let mut out = Vec::new(heap);
-    go_on(was, by, dist, s, top, s, dist[s], &mut out)?;
-    Ok(out)
 }

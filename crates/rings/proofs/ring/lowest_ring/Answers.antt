@@ -1,47 +1,47 @@
-use Rattle.std.proofs.Common.{ℕ, ◌<◌, List, ◌∷◌, map, length, vec_items, sym, ap, ◌∙◌, subst, arith}
+use Rattle.std.proofs.Common.{ℕ, List, ◌∷◌, map, length, vec_items, Option, sym, ap, ◌∙◌, subst, arith}
 use Rattle.records.specs.declared.place.Place.{Place}
+use Rattle.runs.specs.declared.run.Run.{Run}
+use Rattle.runs.specs.Run.{Before}
 use Rattle.runs.specs.Model.{run_of}
+use Rattle.rings.specs.declared.finding.Found as found
 use Rattle.rings.specs.Ring.{LowestRing}
+use Rattle.rings.specs.Links.{In}
+use Rattle.rings.specs.Shortest.{Searched}
 use Rattle.rings.specs.Numbers.{place_of}
-use Rattle.rings.specs.Lowest.{AllBelow}
-use Rattle.rings.proofs.Whole.{searched_as, few, no_ring, the_ring, ring_below}
+use Rattle.rings.proofs.Whole.{no_ring, the_ring, ring_below}
 use Rattle.rings.proofs.ring.lowest_ring.Goals as goal
-
-pub lowest-requires : goal.lowest-requires
-lowest-requires c =
-    let n = c.in_ok-numbers.numbers in
-    let x = c.in_ok-links.links in
-    let h = c.in_ok-links.ensures in
-    record {
-      flags = ap length c.deref.ensures.value ∙ h.flags ∙ sym h.senders ∙ sym (ap length c.deref-2.ensures.value);
-      few = omega (arith, few c.args.run.now (vec_items n.places) n.begins (vec_items x.was) (vec_items x.by) c.in_ok-numbers.ensures h, ap length c.deref-2.ensures.value);
-    }
 
 pub returns-in-None : goal.returns-in-None
 returns-in-None c =
     let n = c.in_ok-numbers.numbers in
-    let x = c.in_ok-links.links in
-    no_ring c.args.run.now (vec_items n.places) n.begins (vec_items x.was) (vec_items x.by) c.in_ok-numbers.ensures c.in_ok-links.ensures
-    (searched_as c.deref.result.now (vec_items x.was) c.deref-2.result.now (vec_items x.by) c.in_ok-found.found _ c.deref.ensures.value c.deref-2.ensures.value c.in-None.is c.in_ok-found.ensures)
+    let links = vec_items c.in_ok-links.links.of in
+    let P : Run → Type 0 = λ r. (i m : ℕ) → Before (run_of r) i m i m → ⊥ in
+    let Q : Option found.Found → Type 0 = λ o. Searched (In links) (length links) o in
+    subst P c.in_ok-numbers.ensures (no_ring n.run.now (vec_items n.places) n.begins links n.numbered c.in_ok-links.ensures (subst Q c.in-None.is c.in_ok-lowest.ensures))
 
-pub places_of-requires : goal.places_of-requires
-places_of-requires c =
+pub places_of-requires-clause-start : goal.places_of-requires-clause-start
+places_of-requires-clause-start c =
     let n = c.in_ok-numbers.numbers in
-    let x = c.in_ok-links.links in
-    let f = c.in-Some.found in
-    let b = ring_below c.args.run.now (vec_items n.places) n.begins (vec_items x.was) (vec_items x.by) c.in_ok-numbers.ensures c.in_ok-links.ensures f
-    (searched_as c.deref.result.now (vec_items x.was) c.deref-2.result.now (vec_items x.by) c.in_ok-found.found _ c.deref.ensures.value c.deref-2.ensures.value c.in-Some.is c.in_ok-found.ensures) in
-    let P : List Place → Type 0 = λ z. f.start < length z in
-    let Q : List Place → Type 0 = λ z. AllBelow (length z) (vec_items f.rest) in
-    let R : List ℕ → Type 0 = λ z. AllBelow (length c.deref-in-Some.result.now) z in
-    record { start = subst P (sym c.deref-in-Some.ensures.value) b.0; rest = subst R (sym c.deref-in-Some-2.ensures.value) (subst Q (sym c.deref-in-Some.ensures.value) b.1) }
+    let links = vec_items c.in_ok-links.links.of in
+    let Q : Option found.Found → Type 0 = λ o. Searched (In links) (length links) o in
+    let b = ring_below n.run.now (vec_items n.places) n.begins links n.numbered c.in_ok-links.ensures c.in-Some.found (subst Q c.in-Some.is c.in_ok-lowest.ensures) in
+    omega (arith, b.0, ap length c.deref.ensures.value)
+
+pub places_of-requires-clause-rest : goal.places_of-requires-clause-rest
+places_of-requires-clause-rest c =
+    let n = c.in_ok-numbers.numbers in
+    let links = vec_items c.in_ok-links.links.of in
+    let Q : Option found.Found → Type 0 = λ o. Searched (In links) (length links) o in
+    let b = ring_below n.run.now (vec_items n.places) n.begins links n.numbered c.in_ok-links.ensures c.in-Some.found (subst Q c.in-Some.is c.in_ok-lowest.ensures) in
+    λ k lt. omega (arith, b.1 k lt, ap length c.deref.ensures.value)
 
 pub returns : goal.returns
 returns c =
     let n = c.in_ok-numbers.numbers in
-    let x = c.in_ok-links.links in
+    let links = vec_items c.in_ok-links.links.of in
     let f = c.in-Some.found in
-    let ring = the_ring c.args.run.now (vec_items n.places) n.begins (vec_items x.was) (vec_items x.by) c.in_ok-numbers.ensures c.in_ok-links.ensures f
-    (searched_as c.deref.result.now (vec_items x.was) c.deref-2.result.now (vec_items x.by) c.in_ok-found.found _ c.deref.ensures.value c.deref-2.ensures.value c.in-Some.is c.in_ok-found.ensures) in
-    let P : List Place → Type 0 = λ z. LowestRing (run_of c.args.run.now) z in
-    subst P (sym (c.in_ok-ring-in-Some.ensures ∙ ap (λ (z : List Place). map (place_of z) (f.start ∷ c.deref-in-Some-2.result.now)) c.deref-in-Some.ensures.value ∙ ap (λ (z : List ℕ). map (place_of (vec_items n.places)) (f.start ∷ z)) c.deref-in-Some-2.ensures.value)) ring
+    let Q : Option found.Found → Type 0 = λ o. Searched (In links) (length links) o in
+    let P : Run → Type 0 = λ r. LowestRing (run_of r) (vec_items c.in_ok-places_of-in-Some.field-0) in
+    let R : List Place → Type 0 = λ z. LowestRing (run_of n.run.now) z in
+    let ring = the_ring n.run.now (vec_items n.places) n.begins links n.numbered c.in_ok-links.ensures f (subst Q c.in-Some.is c.in_ok-lowest.ensures) in
+    subst P c.in_ok-numbers.ensures (subst R (sym (c.in_ok-places_of-in-Some.ensures ∙ ap (λ (z : List Place). map (place_of z) (f.start ∷ vec_items f.rest)) c.deref.ensures.value)) ring)
