@@ -1,19 +1,14 @@
 -- An answer's bytes taken apart, and that they are no other's.
-use Rattle.std.proofs.Common.{◌≡◌, ℕ, ◌+◌, ◌-◌, ◌/◌, ◌%◌, ◌^◌, ◌≤◌, ◌⊎◌, List, [], ◌∷◌, ◌++◌, length, get_or, take, drop, sym, refl, ap, ◌∙◌, inl, inr, arith, length-append, length-drop, length-take}
-use Rattle.std.proofs.lemmas.List.{drop_more, drop_all, take_all, drop_at, take_at, take-append-drop}
+use Rattle.std.proofs.Common.{◌≡◌, ℕ, ◌+◌, ◌-◌, ◌/◌, ◌%◌, ◌^◌, ◌≤◌, ◌⊎◌, List, [], ◌∷◌, ◌++◌, length, get_or, take, drop, sym, refl, ap, ◌∙◌, append_assoc, inl, inr, arith, length-append}
+use Rattle.std.proofs.lemmas.List.{drop_more, drop_at, take_at, take-append-drop}
 use Rattle.records.specs.Record.{bytes4}
 use Rattle.answers.specs.Answer.{Answer, Counted, may_yes, may_no, must_yes, must_no}
 use Rattle.answers.specs.Answer as said
 use Rattle.answers.specs.Bytes.{bytes8, each2, answer_bytes, counted_bytes}
 use Rattle.answers.specs.declared.answer.Answer as code
 use Rattle.answers.specs.declared.answer.Answer.TheVariants as answers
-use Rattle.answers.specs.Model.{answer_of, ToMay, first_eight}
+use Rattle.answers.specs.Model.{answer_of, ToMay}
 use Rattle.answers.proofs.Counts.{each2_length}
-
--- the first three of a list, and the rest
-pub three : (fs : List ℕ) → 3 ≤ length fs → fs ≡ get_or fs 0 0 ∷ (get_or fs 1 0 ∷ (get_or fs 2 0 ∷ drop 3 fs))
-three fs le =
-    drop_more fs 0 0 (omega arith) ∙ ap (λ (x : List ℕ). get_or fs 0 0 ∷ x) (drop_more fs 1 0 (omega arith)) ∙ ap (λ (x : List ℕ). get_or fs 0 0 ∷ (get_or fs 1 0 ∷ x)) (drop_more fs 2 0 (omega arith))
 
 -- what stands at the beginning of an answer to may
 pub begins : (fs : List ℕ) (a : Answer) → ToMay a → fs ≡ 77 ∷ answer_bytes a → (3 ≤ length fs) × (get_or fs 0 0 ≡ 77) × (get_or fs 1 0 ≡ 1) × (((get_or fs 2 0 ≡ 0) × (length fs ≡ 3)) ⊎ ((get_or fs 2 0 ≡ 1) × (length fs % 2 ≡ 1)))
@@ -26,10 +21,6 @@ begins fs (must_yes ts) to e = absurd to
 begins fs (must_no way) to e = absurd to
 begins fs (said.Answer.least sum cut flows) to e = absurd to
 begins fs (said.Answer.most sum cut flows) to e = absurd to
-
--- sixteen bytes of counts stand behind
-pub steps_length : (a : Counted) → length (bytes8 a.pairs ++ bytes8 a.ways) ≡ 16
-steps_length a = refl
 
 pub counted_parts : (a : Counted) → counted_bytes a ≡ (77 ∷ answer_bytes a.answer) ++ (bytes8 a.pairs ++ bytes8 a.ways)
 counted_parts a = refl
@@ -102,31 +93,7 @@ counted_same a b ta tb e =
     let ways : a.ways ≡ b.ways = eight_same a.ways b.ways (ap (λ (z : List ℕ). drop 8 z) steps) in
     same_fields a.answer b.answer a.pairs b.pairs a.ways b.ways answer pairs ways
 
--- eight bytes, and twice eight
-eight_of : (xs : List ℕ) → length xs ≡ 8 → xs ≡ first_eight xs
-eight_of xs n =
-    drop_more xs 0 0 (omega arith)
-    ∙ ap (λ (x : List ℕ). get_or xs 0 0 ∷ x) (drop_more xs 1 0 (omega arith)
-    ∙ ap (λ (x : List ℕ). get_or xs 1 0 ∷ x) (drop_more xs 2 0 (omega arith)
-    ∙ ap (λ (x : List ℕ). get_or xs 2 0 ∷ x) (drop_more xs 3 0 (omega arith)
-    ∙ ap (λ (x : List ℕ). get_or xs 3 0 ∷ x) (drop_more xs 4 0 (omega arith)
-    ∙ ap (λ (x : List ℕ). get_or xs 4 0 ∷ x) (drop_more xs 5 0 (omega arith)
-    ∙ ap (λ (x : List ℕ). get_or xs 5 0 ∷ x) (drop_more xs 6 0 (omega arith)
-    ∙ ap (λ (x : List ℕ). get_or xs 6 0 ∷ x) (drop_more xs 7 0 (omega arith)
-    ∙ ap (λ (x : List ℕ). get_or xs 7 0 ∷ x) (drop_all 8 xs (omega arith)))))))))
-
-pub both_numbers : (xs : List ℕ) (m n : ℕ) → length xs ≡ 16 → bytes8 m ≡ first_eight (take 8 xs) → bytes8 n ≡ first_eight (take 8 (drop 8 xs)) → xs ≡ bytes8 m ++ bytes8 n
-both_numbers xs m n long first second =
-    let front : take 8 xs ≡ bytes8 m = eight_of (take 8 xs) (omega (arith, length-take 8 xs)) ∙ sym first in
-    let late : length (drop 8 xs) ≡ 8 = omega (arith, length-drop 8 xs) in
-    let back : drop 8 xs ≡ bytes8 n = sym (take_all 8 (drop 8 xs) (omega (arith, late))) ∙ eight_of (take 8 (drop 8 xs)) (omega (arith, length-take 8 (drop 8 xs), late)) ∙ sym second in
-    sym (take-append-drop 8 xs) ∙ ap (λ (x : List ℕ). x ++ drop 8 xs) front ∙ ap (λ (x : List ℕ). bytes8 m ++ x) back
-
 -- whatever the program has is an answer to may
 pub to_may : (a : code.Answer) → ToMay (answer_of a)
 to_may (answers.MayYes cut) = tt
 to_may answers.MayNo = tt
-
--- and put together again
-pub from_three : (fs xs : List ℕ) (f : ℕ) → 3 ≤ length fs → get_or fs 0 0 ≡ 77 → get_or fs 1 0 ≡ 1 → get_or fs 2 0 ≡ f → drop 3 fs ≡ xs → fs ≡ 77 ∷ (1 ∷ (f ∷ xs))
-from_three fs xs f le a b c rest = let e = three fs le in cc

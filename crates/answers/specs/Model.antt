@@ -42,7 +42,3 @@ AnswerRead bs (Some a) = (bs ≡ counted_bytes (counted_of a)) × ((b : said.Cou
 abbrev pub FrontRead : List ℕ → Option code_answer.Answer → Type 0
 FrontRead fs None = (a : said.Answer) → ToMay a → fs ≢ 77 ∷ answer_bytes a
 FrontRead fs (Some a) = fs ≡ 77 ∷ answer_bytes (answer_of a)
-
--- the first eight of a list
-abbrev pub first_eight : List ℕ → List ℕ
-first_eight xs = slice_index xs 0 ∷ (slice_index xs 1 ∷ (slice_index xs 2 ∷ (slice_index xs 3 ∷ (slice_index xs 4 ∷ (slice_index xs 5 ∷ (slice_index xs 6 ∷ (slice_index xs 7 ∷ [])))))))
