@@ -1,6 +1,6 @@
 -- An answer's bytes taken apart, and that they are no other's.
-use Rattle.std.proofs.Common.{◌≡◌, ℕ, ◌+◌, ◌-◌, ◌/◌, ◌%◌, ◌^◌, ◌≤◌, ◌⊎◌, List, [], ◌∷◌, ◌++◌, length, get_or, take, drop, sym, refl, ap, ◌∙◌, append_assoc, inl, inr, arith, length-append}
-use Rattle.std.proofs.lemmas.List.{drop_more, drop_at, take_at, take-append-drop}
+use Rattle.std.proofs.Common.{◌≡◌, ℕ, ◌+◌, ◌-◌, ◌/◌, ◌%◌, ◌^◌, ◌≤◌, ◌⊎◌, List, [], ◌∷◌, ◌++◌, length, get_or, take, drop, sym, refl, ap, ◌∙◌, inl, inr, arith, length-append}
+use Rattle.std.proofs.lemmas.List.{drop_at, take_at}
 use Rattle.records.specs.Record.{bytes4}
 use Rattle.answers.specs.Answer.{Answer, Counted, may_yes, may_no, must_yes, must_no}
 use Rattle.answers.specs.Answer as said
@@ -22,18 +22,14 @@ begins fs (must_no way) to e = absurd to
 begins fs (said.Answer.least sum cut flows) to e = absurd to
 begins fs (said.Answer.most sum cut flows) to e = absurd to
 
-pub counted_parts : (a : Counted) → counted_bytes a ≡ (77 ∷ answer_bytes a.answer) ++ (bytes8 a.pairs ++ bytes8 a.ways)
-counted_parts a = refl
-
 -- what stands before the counts of steps, and the counts
 pub split : (bs : List ℕ) (a : Counted) → bs ≡ counted_bytes a → (16 ≤ length bs) × (take (length bs - 16) bs ≡ 77 ∷ answer_bytes a.answer) × (drop (length bs - 16) bs ≡ bytes8 a.pairs ++ bytes8 a.ways)
 split bs a e =
     let front = 77 ∷ answer_bytes a.answer in
     let steps = bytes8 a.pairs ++ bytes8 a.ways in
-    let is : bs ≡ front ++ steps = e ∙ counted_parts a in
-    let n : length bs ≡ length front + 16 = ap length is ∙ length-append front steps in
+    let n : length bs ≡ length front + 16 = ap length e ∙ length-append front steps in
     let at : length front ≡ length bs - 16 = omega (arith, n) in
-    (omega (arith, n), ap (λ (x : List ℕ). take (length bs - 16) x) is ∙ take_at front steps (length bs - 16) at, ap (λ (x : List ℕ). drop (length bs - 16) x) is ∙ drop_at front steps (length bs - 16) at)
+    (omega (arith, n), ap (λ (x : List ℕ). take (length bs - 16) x) e ∙ take_at front steps (length bs - 16) at, ap (λ (x : List ℕ). drop (length bs - 16) x) e ∙ drop_at front steps (length bs - 16) at)
 
 -- bytes say one number only
 two_same : (m n : ℕ) → m / 256 ≡ n / 256 → m % 256 ≡ n % 256 → m ≡ n
@@ -80,9 +76,6 @@ answer_same may_no (must_no way) ta tb e = absurd tb
 answer_same may_no (said.Answer.least sum cut flows) ta tb e = absurd tb
 answer_same may_no (said.Answer.most sum cut flows) ta tb e = absurd tb
 
-same_fields : (x y : Answer) (p q m n : ℕ) → x ≡ y → p ≡ q → m ≡ n → ◌≡◌ {A = Counted} (record { answer = x; pairs = p; ways = m }) (record { answer = y; pairs = q; ways = n })
-same_fields x y p q m n e f g = cc
-
 pub counted_same : (a b : Counted) → ToMay a.answer → ToMay b.answer → counted_bytes a ≡ counted_bytes b → a ≡ b
 counted_same a b ta tb e =
     let x = split (counted_bytes b) a (sym e) in
@@ -91,7 +84,7 @@ counted_same a b ta tb e =
     let steps : bytes8 a.pairs ++ bytes8 a.ways ≡ bytes8 b.pairs ++ bytes8 b.ways = sym x.2 ∙ y.2 in
     let pairs : a.pairs ≡ b.pairs = eight_same a.pairs b.pairs (ap (λ (z : List ℕ). take 8 z) steps) in
     let ways : a.ways ≡ b.ways = eight_same a.ways b.ways (ap (λ (z : List ℕ). drop 8 z) steps) in
-    same_fields a.answer b.answer a.pairs b.pairs a.ways b.ways answer pairs ways
+    λ i. record { answer = answer i; pairs = pairs i; ways = ways i }
 
 -- whatever the program has is an answer to may
 pub to_may : (a : code.Answer) → ToMay (answer_of a)

@@ -1,6 +1,6 @@
 -- What questions, answers and replies of the program stand for, and what reading an answer promises.
 -- Assumes nothing.
-use Rattle.std.specs.Prelude.{◌≡◌, ℕ, ◌^◌, ◌<◌, List, [], ◌∷◌, Some, None, vec_items, Option, ◌≢◌, slice_index}
+use Rattle.std.specs.Prelude.{◌≡◌, ℕ, ◌^◌, ◌<◌, List, ◌∷◌, Some, None, vec_items, Option, ◌≢◌}
 use Rattle.answers.specs.declared.question.Question as code
 use Rattle.answers.specs.declared.question.Question.TheVariants as questions
 use Rattle.answers.specs.declared.answer.Answer as code_answer
