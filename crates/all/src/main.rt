@@ -1,10 +1,9 @@
 // `all RECORD..`: goes through all cuts of a small run and answers each question by looking at each.
 #![tactic(auto)]
 
-use cli::files::{FileError, beginnings};
 use cli::refusals::tell_refusal;
-use cli::stop::{Stop, help, status};
-use cli::{texts, words};
+use cli::stop::{FileError, Stop, help, status};
+use cli::{beginnings, texts, words};
 use exhaustive::findings::{Findings, Looked, Replied};
 use exhaustive::looking::look_at_files;
 use exhaustive::seen::Extreme;

@@ -22,27 +22,24 @@ pub each2_length : (xs : List ℕ) → length (each2 xs) ≡ 2 * length xs
 each2_length [] = omega arith
 each2_length (x ∷ xs) = omega (arith, each2_length xs)
 
--- numbers read from bytes have those bytes
-pub eight_back : (bs : List ℕ) (n : ℕ) → length bs ≡ 8 → ((i : ℕ) → get_or bs i 0 < 256) → n ≡ from_be_bytes w64 bs → n < 2 ^ 64 → bs ≡ bytes8 n
-eight_back bs n long small is fits = sym (be_bytes_8 bs n long small is) ∙ eight_bytes n fits
+-- bytes are below 256, and so are those of a part of them
+abbrev pub Bytes : List ℕ → Type 0
+Bytes bs = (i : ℕ) → get_or bs i 0 < 256
 
-bytes_taken : (k : ℕ) (bs : List ℕ) → ((i : ℕ) → get_or bs i 0 < 256) → (i : ℕ) → get_or (take k bs) i 0 < 256
+bytes_taken : (k : ℕ) (bs : List ℕ) → Bytes bs → Bytes (take k bs)
 bytes_taken zero bs small i = omega arith
 bytes_taken (suc k) [] small i = omega arith
 bytes_taken (suc k) (x ∷ bs) small zero = small 0
 bytes_taken (suc k) (x ∷ bs) small (suc i) = bytes_taken k bs (λ j. small (suc j)) i
 
--- the number that the last eight bytes are, and those before it
-pub last_number : (bs before last : List ℕ) (n : ℕ) → ((i : ℕ) → get_or bs i 0 < 256) → (before ≡ take (length bs - 8) bs) × (last ≡ drop (length bs - 8) bs) × (length before + 8 ≡ length bs) → n ≡ from_be_bytes w64 last → n < 2 ^ 64 → (bs ≡ before ++ bytes8 n) × ((i : ℕ) → get_or before i 0 < 256)
-last_number bs before last n small (front, back, long) is fits =
-    let k = length bs - 8 in
-    let eight : length last ≡ 8 = omega (arith, ap length back, length-drop k bs) in
-    let small_last : (i : ℕ) → get_or last i 0 < 256 = λ i. omega (arith, ap (λ (x : List ℕ). get_or x i 0) back, get_or-drop k bs i 0, small (k + i)) in
-    let number : last ≡ bytes8 n = eight_back last n eight small_last is fits in
-    let whole = take-append-drop k bs in
-    (sym whole ∙ ap (λ (x : List ℕ). x ++ drop k bs) (sym front) ∙ ap (λ (x : List ℕ). before ++ x) (sym back ∙ number), λ i. rw front (bytes_taken k bs small i))
+bytes_dropped : (k : ℕ) (bs : List ℕ) → Bytes bs → Bytes (drop k bs)
+bytes_dropped k bs small i = omega (arith, get_or-drop k bs i 0, small (k + i))
 
-pub pairs_back : (k : ℕ) (bs : List ℕ) → length bs ≡ 2 * k → ((i : ℕ) → get_or bs i 0 < 256) → bs ≡ each2 (map (λ (p : List ℕ). from_be_bytes w16 p) (first_chunks 2 k bs))
+-- numbers read from bytes have those bytes
+pub eight_back : (bs : List ℕ) (n : ℕ) → length bs ≡ 8 → Bytes bs → n ≡ from_be_bytes w64 bs → n < 2 ^ 64 → bs ≡ bytes8 n
+eight_back bs n long small is fits = sym (be_bytes_8 bs n long small is) ∙ eight_bytes n fits
+
+pub pairs_back : (k : ℕ) (bs : List ℕ) → length bs ≡ 2 * k → Bytes bs → bs ≡ each2 (map (λ (p : List ℕ). from_be_bytes w16 p) (first_chunks 2 k bs))
 pairs_back zero [] long small = refl
 pairs_back zero (x ∷ bs) long small = absurd (omega arith)
 pairs_back (suc k) [] long small = absurd (omega arith)
@@ -52,6 +49,19 @@ pairs_back (suc k) (x ∷ (y ∷ bs)) long small =
     let high : (x * 256 + y) / 256 ≡ x = omega (arith, small 1) in
     let low : (x * 256 + y) % 256 ≡ y = omega (arith, small 1) in
     cc
+
+-- bytes that end in the eight of a number, and those before it
+pub record Ends (bs before : List ℕ) (n : ℕ) : Type 0 where
+  pub is : bs ≡ before ++ bytes8 n
+  pub small : Bytes before
+
+pub ends : (bs before last : List ℕ) (n : ℕ) → Bytes bs → (before ≡ take (length bs - 8) bs) × (last ≡ drop (length bs - 8) bs) × (length before + 8 ≡ length bs) → n ≡ from_be_bytes w64 last → n < 2 ^ 64 → Ends bs before n
+ends bs before last n small (front, back, long) read fits =
+    let k = length bs - 8 in
+    let eight : length last ≡ 8 = omega (arith, ap length back, length-drop k bs) in
+    let number : last ≡ bytes8 n = eight_back last n eight (rw back (bytes_dropped k bs small)) read fits in
+    let whole = take-append-drop k bs in
+    record { is = cc; small = rw front (bytes_taken k bs small) }
 
 -- what stands behind a list, by another word for it; and what is put behind that
 pub said : (xs : List ℕ) {ys a b : List ℕ} → ys ≡ xs ++ a → a ≡ b → ys ≡ xs ++ b

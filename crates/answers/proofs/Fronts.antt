@@ -59,22 +59,18 @@ each2_same (x ∷ xs) (y ∷ ys) e =
     cc
 
 answer_same : (a b : Answer) → ToMay a → ToMay b → 77 ∷ answer_bytes a ≡ 77 ∷ answer_bytes b → a ≡ b
-answer_same (may_yes xs) (may_yes ys) ta tb e = ap may_yes (each2_same xs ys (ap (λ (z : List ℕ). drop 3 z) e))
-answer_same (may_yes xs) may_no ta tb e = absurd (omega (arith, ap (λ (z : List ℕ). get_or z 2 0) e))
-answer_same may_no (may_yes ys) ta tb e = absurd (omega (arith, ap (λ (z : List ℕ). get_or z 2 0) e))
-answer_same may_no may_no ta tb e = refl
+answer_same a (must_yes ts) ta tb e = absurd tb
+answer_same a (must_no way) ta tb e = absurd tb
+answer_same a (said.Answer.least sum cut flows) ta tb e = absurd tb
+answer_same a (said.Answer.most sum cut flows) ta tb e = absurd tb
 answer_same (must_yes ts) b ta tb e = absurd ta
 answer_same (must_no way) b ta tb e = absurd ta
 answer_same (said.Answer.least sum cut flows) b ta tb e = absurd ta
 answer_same (said.Answer.most sum cut flows) b ta tb e = absurd ta
-answer_same (may_yes xs) (must_yes ts) ta tb e = absurd tb
-answer_same (may_yes xs) (must_no way) ta tb e = absurd tb
-answer_same (may_yes xs) (said.Answer.least sum cut flows) ta tb e = absurd tb
-answer_same (may_yes xs) (said.Answer.most sum cut flows) ta tb e = absurd tb
-answer_same may_no (must_yes ts) ta tb e = absurd tb
-answer_same may_no (must_no way) ta tb e = absurd tb
-answer_same may_no (said.Answer.least sum cut flows) ta tb e = absurd tb
-answer_same may_no (said.Answer.most sum cut flows) ta tb e = absurd tb
+answer_same (may_yes xs) (may_yes ys) ta tb e = ap may_yes (each2_same xs ys (ap (λ (z : List ℕ). drop 3 z) e))
+answer_same (may_yes xs) may_no ta tb e = absurd (omega (arith, ap (λ (z : List ℕ). get_or z 2 0) e))
+answer_same may_no (may_yes ys) ta tb e = absurd (omega (arith, ap (λ (z : List ℕ). get_or z 2 0) e))
+answer_same may_no may_no ta tb e = refl
 
 pub counted_same : (a b : Counted) → ToMay a.answer → ToMay b.answer → counted_bytes a ≡ counted_bytes b → a ≡ b
 counted_same a b ta tb e =

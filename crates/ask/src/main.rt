@@ -1,10 +1,9 @@
 // `ask QUESTION ANSWER RECORD..`: what can be known from machines' records.
 #![tactic(auto)]
 
-use cli::files::{FileError, beginnings, write_whole};
 use cli::refusals::tell_refusal;
-use cli::stop::{Stop, help, status};
-use cli::{texts, words};
+use cli::stop::{FileError, Stop, help, status};
+use cli::{beginnings, texts, words, write_whole};
 use letters::matched::Matched;
 use order::asked::{Asked, order_files};
 use std::io;
@@ -36,7 +35,8 @@ fn ask<'a>(
     let files = beginnings(rt, names)?;
     match &order_files(rt.alloc(), &files)? {
         Asked::Refused(refusal) => {
-            write_whole(rt, answer, &refusal.bytes(rt.alloc())?)?;
+            let written = write_whole(rt, answer, &refusal.bytes(rt.alloc())?);
+            written.map_err(|error| FileError::Unwritten(answer, error))?;
             tell_refusal(rt, refusal, names)?;
         }
         Asked::Run { matched, .. } => tell_undecided(rt, question, matched)?,

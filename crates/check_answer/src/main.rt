@@ -4,10 +4,9 @@
 use answers::question::Question;
 use checker::judging::judge;
 use checker::verdict::Verdict;
-use cli::files::{FileError, beginnings, read_all};
 use cli::refusals::Why;
-use cli::stop::{Stop, help, status};
-use cli::{texts, words};
+use cli::stop::{FileError, Stop, help, status};
+use cli::{beginnings, read_all, texts, words};
 use std::io;
 use std::process::ExitCode;
 
@@ -58,10 +57,15 @@ fn check<'a>(
     answer: &'a str,
     names: &[&'a str],
 ) -> Result<ExitCode, Stop<FileError<'a>>> {
-    let bytes = read_all(rt, answer)?;
+    let bytes = read_all(rt, answer).map_err(|error| FileError::Unread(answer, error))?;
     let files = beginnings(rt, names)?;
     let question = question_of(named, &bytes);
-    let verdict = judge(rt.alloc(), &files, question.unwrap_or(Question::May), &bytes)?;
+    let verdict = judge(
+        rt.alloc(),
+        &files,
+        question.unwrap_or(Question::May),
+        &bytes,
+    )?;
     if question.is_some() || matches!(verdict, Verdict::Refused(_)) {
         Ok(tell_verdict(rt, &verdict, names)?)
     } else {

@@ -1,9 +1,24 @@
-// How programs end.
-use crate::files::FileError;
+// How programs end: with a status, or stopped by what they say of themselves.
 use std::alloc::{AllocError, AllocFailed};
 use std::fmt::Display;
-use std::io;
 use std::process::ExitCode;
+use std::{fmt, io};
+
+// A file that can't be read, or written, and why.
+#[derive(Drop)]
+pub enum FileError<'a> {
+    Unread(&'a str, io::Error),
+    Unwritten(&'a str, io::Error),
+}
+
+impl fmt::Display for FileError<'_> {
+    fn fmt<W: fmt::Write>(&self, f: &mut fmt::Formatter<W>) -> fmt::Result {
+        match self {
+            FileError::Unread(name, error) => write!(f, "{name} can't be read: {error}"),
+            FileError::Unwritten(name, error) => write!(f, "{name} can't be written: {error}"),
+        }
+    }
+}
 
 // Why a program stops before it has done what it was asked for.
 #[derive(Drop)]

@@ -1,15 +1,14 @@
 // `encode MACHINE TEXT RECORD`: a machine's record from a text that people can write.
 #![tactic(auto)]
 
-use cli::files::{FileError, read_text, write_whole};
-use cli::stop::{Stop, help, status};
-use cli::{texts, words};
+use cli::stop::{FileError, Stop, help, status};
+use cli::{texts, words, write_whole};
 use records::doing::{Doing, Kind};
 use records::record::Record;
 use records::writing::{Writing, write_record};
 use std::alloc::Global;
-use std::fmt;
 use std::process::ExitCode;
+use std::{fmt, fs};
 
 const USAGE: &str = "usage: encode MACHINE TEXT RECORD
   MACHINE  the machine's number, 0 to 39
@@ -110,11 +109,14 @@ fn record<'a>(heap: Global, name: &'a str, text: &str) -> Result<Record, Stop<Te
     let Some((first, number)) = lines.next() else {
         return Err(Stop::Told(TextError::Empty(name)));
     };
-    let Some(Doing {
-        kind: Kind::Neither,
-        sign,
-        amount,
-    }) = doing(first) else {
+    let Some(
+        Doing {
+            kind: Kind::Neither,
+            sign,
+            amount,
+        },
+    ) = doing(first)
+    else {
         return Err(Stop::Told(TextError::Unclear(name, number)));
     };
     let mut doings = Vec::new(heap);
@@ -137,12 +139,13 @@ fn encode<'a>(
     text: &'a str,
     name: &'a str,
 ) -> Result<ExitCode, Stop<TextError<'a>>> {
-    let lines = read_text(rt, text)?;
+    let lines = fs::read_to_string(rt, text).map_err(|error| FileError::Unread(text, error))?;
     let recorded = record(rt.alloc(), text, lines.as_str())?;
     match write_record(rt.alloc(), &recorded, machine)? {
         Writing::Beyond(doing) => Err(Stop::Told(TextError::Beyond(doing))),
         Writing::Whole(bytes) => {
-            write_whole(rt, name, &bytes)?;
+            let written = write_whole(rt, name, &bytes);
+            written.map_err(|error| FileError::Unwritten(name, error))?;
             Ok(ExitCode::SUCCESS)
         }
     }
