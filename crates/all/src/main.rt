@@ -2,32 +2,24 @@
 #![tactic(auto)]
 
 use cli::refusals::tell_refusal;
-use cli::{beginnings, words};
-use exhaustive::findings::{Findings, Replied};
+use cli::stop::{FileError, Stop, help, status};
+use cli::{beginnings, texts, words};
+use exhaustive::extreme::Extreme;
+use exhaustive::findings::Findings;
 use exhaustive::looking::look_at_files;
-use exhaustive::seen::Extreme;
 use runs::counts::Counts;
+use std::io;
 use std::process::ExitCode;
 
 const USAGE: &str = "usage: all RECORD..
   RECORD..  the machines' records, in order of machines from 0";
 
-// How it ended. All but `Told` end with status 1.
-#[derive(Clone, Copy)]
-enum End {
-    Told,
-    TooMany,
-    Refused,
-    Failed,
-}
-
 // A cut, as so many doings of each machine.
-fn tell_cut(rt: &HostRuntime, machines: usize, cut: Counts) -> anyhow::Result<()> {
+fn tell_cut(rt: &HostRuntime, machines: usize, cut: Counts) -> io::Result<()> {
     for count in cut.of.iter().take(machines) {
         print!(rt; " {count}")?;
     }
-    println!(rt; "")?;
-    Ok(())
+    println!(rt)
 }
 
 fn tell_extreme(
@@ -35,13 +27,13 @@ fn tell_extreme(
     question: &str,
     machines: usize,
     extreme: Extreme,
-) -> anyhow::Result<()> {
+) -> io::Result<()> {
     let sum = extreme.sum;
     print!(rt; "{question} {sum} at")?;
     tell_cut(rt, machines, extreme.at)
 }
 
-fn tell_findings(rt: &HostRuntime, machines: usize, found: Findings) -> anyhow::Result<End> {
+fn tell_findings(rt: &HostRuntime, machines: usize, found: Findings) -> io::Result<()> {
     let moments = found.moments;
     println!(rt; "moments {moments}")?;
     match found.first {
@@ -51,59 +43,40 @@ fn tell_findings(rt: &HostRuntime, machines: usize, found: Findings) -> anyhow::
         }
         None => println!(rt; "may no")?,
     }
-    if found.must {
-        println!(rt; "must yes")?;
-    } else {
-        println!(rt; "must no")?;
-    }
+    let must = if found.must { "yes" } else { "no" };
+    println!(rt; "must {must}")?;
     tell_extreme(rt, "least", machines, found.least)?;
-    tell_extreme(rt, "most", machines, found.most)?;
-    Ok(End::Told)
+    tell_extreme(rt, "most", machines, found.most)
 }
 
-fn tell_looked(
-    rt: &HostRuntime,
-    machines: usize,
-    looked: Option<Findings>,
-) -> anyhow::Result<End> {
-    let Some(found) = looked else {
-        println!(rt; "too many cuts")?;
-        println!(rt; "The run has more than 1,000,000 cuts, and this program looks at each.")?;
-        return Ok(End::TooMany);
-    };
-    tell_findings(rt, machines, found)
+fn tell_too_many(rt: &HostRuntime) -> io::Result<()> {
+    println!(rt; "too many cuts")?;
+    println!(rt; "The run has more than 1,000,000 cuts, and this program looks at each.")
 }
 
-fn all(rt: &HostRuntime, names: &[String]) -> anyhow::Result<End> {
-    let Some(files) = beginnings(rt, "all", names)? else {
-        return Ok(End::Failed);
-    };
-    let replied = look_at_files(rt.alloc(), &files)?;
-    match replied {
-        Replied::Refused(refusal) => {
-            tell_refusal(rt, &refusal, names)?;
-            Ok(End::Refused)
+fn all<'a>(rt: &HostRuntime, names: &[&'a str]) -> Result<ExitCode, Stop<FileError<'a>>> {
+    let files = beginnings(rt, names)?;
+    match look_at_files(rt.alloc(), &files) {
+        Ok(Some(found)) => {
+            tell_findings(rt, files.len(), found)?;
+            return Ok(ExitCode::SUCCESS);
         }
-        Replied::Run(looked) => tell_looked(rt, files.len(), looked),
+        Ok(None) => tell_too_many(rt)?,
+        Err(failure) => tell_refusal(rt, &failure.refused()?, names)?,
     }
+    Ok(ExitCode::FAILURE)
 }
 
-fn run(rt: &HostRuntime) -> anyhow::Result<End> {
-    let words = words(rt)?;
-    if words.is_empty() {
-        eprintln!(rt; "{USAGE}")?;
-        return Ok(End::Failed);
+fn run<'a>(rt: &HostRuntime, words: &[&'a str]) -> Result<ExitCode, Stop<FileError<'a>>> {
+    match words {
+        [] => Err(Stop::Usage),
+        ["--help"] => help(rt, USAGE),
+        names => all(rt, names),
     }
-    if words.len() == 1 && words[0].as_str() == "--help" {
-        println!(rt; "{USAGE}")?;
-        return Ok(End::Told);
-    }
-    all(rt, &words)
 }
 
 fn main(rt: HostRuntime) -> anyhow::Result<ExitCode> {
-    match run(&rt)? {
-        End::Told => Ok(ExitCode::SUCCESS),
-        _ => Ok(ExitCode::FAILURE),
-    }
+    let words = words(&rt)?;
+    let texts = texts(&rt, &words)?;
+    status(&rt, "all", USAGE, run(&rt, &texts))
 }

@@ -1,19 +1,14 @@
 -- An answer's bytes taken apart, and that they are no other's.
-use Rattle.std.proofs.Common.{◌≡◌, ℕ, ◌+◌, ◌-◌, ◌/◌, ◌%◌, ◌^◌, ◌≤◌, ◌⊎◌, List, [], ◌∷◌, ◌++◌, length, get_or, take, drop, sym, refl, ap, ◌∙◌, inl, inr, arith, length-append, length-drop, length-take}
-use Rattle.std.proofs.lemmas.List.{drop_more, drop_all, take_all, drop_at, take_at, take-append-drop}
+use Rattle.std.proofs.Common.{◌≡◌, ℕ, ◌+◌, ◌-◌, ◌/◌, ◌%◌, ◌^◌, ◌≤◌, ◌⊎◌, List, [], ◌∷◌, ◌++◌, length, get_or, take, drop, sym, refl, ap, ◌∙◌, inl, inr, arith, length-append}
+use Rattle.std.proofs.lemmas.List.{drop_at, take_at}
 use Rattle.records.specs.Record.{bytes4}
 use Rattle.answers.specs.Answer.{Answer, Counted, may_yes, may_no, must_yes, must_no}
 use Rattle.answers.specs.Answer as said
 use Rattle.answers.specs.Bytes.{bytes8, each2, answer_bytes, counted_bytes}
 use Rattle.answers.specs.declared.answer.Answer as code
 use Rattle.answers.specs.declared.answer.Answer.TheVariants as answers
-use Rattle.answers.specs.Model.{answer_of, ToMay, first_eight}
+use Rattle.answers.specs.Model.{answer_of, ToMay}
 use Rattle.answers.proofs.Counts.{each2_length}
-
--- the first three of a list, and the rest
-pub three : (fs : List ℕ) → 3 ≤ length fs → fs ≡ get_or fs 0 0 ∷ (get_or fs 1 0 ∷ (get_or fs 2 0 ∷ drop 3 fs))
-three fs le =
-    drop_more fs 0 0 (omega arith) ∙ ap (λ (x : List ℕ). get_or fs 0 0 ∷ x) (drop_more fs 1 0 (omega arith)) ∙ ap (λ (x : List ℕ). get_or fs 0 0 ∷ (get_or fs 1 0 ∷ x)) (drop_more fs 2 0 (omega arith))
 
 -- what stands at the beginning of an answer to may
 pub begins : (fs : List ℕ) (a : Answer) → ToMay a → fs ≡ 77 ∷ answer_bytes a → (3 ≤ length fs) × (get_or fs 0 0 ≡ 77) × (get_or fs 1 0 ≡ 1) × (((get_or fs 2 0 ≡ 0) × (length fs ≡ 3)) ⊎ ((get_or fs 2 0 ≡ 1) × (length fs % 2 ≡ 1)))
@@ -27,22 +22,14 @@ begins fs (must_no way) to e = absurd to
 begins fs (said.Answer.least sum cut flows) to e = absurd to
 begins fs (said.Answer.most sum cut flows) to e = absurd to
 
--- sixteen bytes of counts stand behind
-pub steps_length : (a : Counted) → length (bytes8 a.pairs ++ bytes8 a.ways) ≡ 16
-steps_length a = refl
-
-pub counted_parts : (a : Counted) → counted_bytes a ≡ (77 ∷ answer_bytes a.answer) ++ (bytes8 a.pairs ++ bytes8 a.ways)
-counted_parts a = refl
-
 -- what stands before the counts of steps, and the counts
 pub split : (bs : List ℕ) (a : Counted) → bs ≡ counted_bytes a → (16 ≤ length bs) × (take (length bs - 16) bs ≡ 77 ∷ answer_bytes a.answer) × (drop (length bs - 16) bs ≡ bytes8 a.pairs ++ bytes8 a.ways)
 split bs a e =
     let front = 77 ∷ answer_bytes a.answer in
     let steps = bytes8 a.pairs ++ bytes8 a.ways in
-    let is : bs ≡ front ++ steps = e ∙ counted_parts a in
-    let n : length bs ≡ length front + 16 = ap length is ∙ length-append front steps in
+    let n : length bs ≡ length front + 16 = ap length e ∙ length-append front steps in
     let at : length front ≡ length bs - 16 = omega (arith, n) in
-    (omega (arith, n), ap (λ (x : List ℕ). take (length bs - 16) x) is ∙ take_at front steps (length bs - 16) at, ap (λ (x : List ℕ). drop (length bs - 16) x) is ∙ drop_at front steps (length bs - 16) at)
+    (omega (arith, n), ap (λ (x : List ℕ). take (length bs - 16) x) e ∙ take_at front steps (length bs - 16) at, ap (λ (x : List ℕ). drop (length bs - 16) x) e ∙ drop_at front steps (length bs - 16) at)
 
 -- bytes say one number only
 two_same : (m n : ℕ) → m / 256 ≡ n / 256 → m % 256 ≡ n % 256 → m ≡ n
@@ -72,25 +59,18 @@ each2_same (x ∷ xs) (y ∷ ys) e =
     cc
 
 answer_same : (a b : Answer) → ToMay a → ToMay b → 77 ∷ answer_bytes a ≡ 77 ∷ answer_bytes b → a ≡ b
-answer_same (may_yes xs) (may_yes ys) ta tb e = ap may_yes (each2_same xs ys (ap (λ (z : List ℕ). drop 3 z) e))
-answer_same (may_yes xs) may_no ta tb e = absurd (omega (arith, ap (λ (z : List ℕ). get_or z 2 0) e))
-answer_same may_no (may_yes ys) ta tb e = absurd (omega (arith, ap (λ (z : List ℕ). get_or z 2 0) e))
-answer_same may_no may_no ta tb e = refl
+answer_same a (must_yes ts) ta tb e = absurd tb
+answer_same a (must_no way) ta tb e = absurd tb
+answer_same a (said.Answer.least sum cut flows) ta tb e = absurd tb
+answer_same a (said.Answer.most sum cut flows) ta tb e = absurd tb
 answer_same (must_yes ts) b ta tb e = absurd ta
 answer_same (must_no way) b ta tb e = absurd ta
 answer_same (said.Answer.least sum cut flows) b ta tb e = absurd ta
 answer_same (said.Answer.most sum cut flows) b ta tb e = absurd ta
-answer_same (may_yes xs) (must_yes ts) ta tb e = absurd tb
-answer_same (may_yes xs) (must_no way) ta tb e = absurd tb
-answer_same (may_yes xs) (said.Answer.least sum cut flows) ta tb e = absurd tb
-answer_same (may_yes xs) (said.Answer.most sum cut flows) ta tb e = absurd tb
-answer_same may_no (must_yes ts) ta tb e = absurd tb
-answer_same may_no (must_no way) ta tb e = absurd tb
-answer_same may_no (said.Answer.least sum cut flows) ta tb e = absurd tb
-answer_same may_no (said.Answer.most sum cut flows) ta tb e = absurd tb
-
-same_fields : (x y : Answer) (p q m n : ℕ) → x ≡ y → p ≡ q → m ≡ n → ◌≡◌ {A = Counted} (record { answer = x; pairs = p; ways = m }) (record { answer = y; pairs = q; ways = n })
-same_fields x y p q m n e f g = cc
+answer_same (may_yes xs) (may_yes ys) ta tb e = ap may_yes (each2_same xs ys (ap (λ (z : List ℕ). drop 3 z) e))
+answer_same (may_yes xs) may_no ta tb e = absurd (omega (arith, ap (λ (z : List ℕ). get_or z 2 0) e))
+answer_same may_no (may_yes ys) ta tb e = absurd (omega (arith, ap (λ (z : List ℕ). get_or z 2 0) e))
+answer_same may_no may_no ta tb e = refl
 
 pub counted_same : (a b : Counted) → ToMay a.answer → ToMay b.answer → counted_bytes a ≡ counted_bytes b → a ≡ b
 counted_same a b ta tb e =
@@ -100,33 +80,9 @@ counted_same a b ta tb e =
     let steps : bytes8 a.pairs ++ bytes8 a.ways ≡ bytes8 b.pairs ++ bytes8 b.ways = sym x.2 ∙ y.2 in
     let pairs : a.pairs ≡ b.pairs = eight_same a.pairs b.pairs (ap (λ (z : List ℕ). take 8 z) steps) in
     let ways : a.ways ≡ b.ways = eight_same a.ways b.ways (ap (λ (z : List ℕ). drop 8 z) steps) in
-    same_fields a.answer b.answer a.pairs b.pairs a.ways b.ways answer pairs ways
-
--- eight bytes, and twice eight
-eight_of : (xs : List ℕ) → length xs ≡ 8 → xs ≡ first_eight xs
-eight_of xs n =
-    drop_more xs 0 0 (omega arith)
-    ∙ ap (λ (x : List ℕ). get_or xs 0 0 ∷ x) (drop_more xs 1 0 (omega arith)
-    ∙ ap (λ (x : List ℕ). get_or xs 1 0 ∷ x) (drop_more xs 2 0 (omega arith)
-    ∙ ap (λ (x : List ℕ). get_or xs 2 0 ∷ x) (drop_more xs 3 0 (omega arith)
-    ∙ ap (λ (x : List ℕ). get_or xs 3 0 ∷ x) (drop_more xs 4 0 (omega arith)
-    ∙ ap (λ (x : List ℕ). get_or xs 4 0 ∷ x) (drop_more xs 5 0 (omega arith)
-    ∙ ap (λ (x : List ℕ). get_or xs 5 0 ∷ x) (drop_more xs 6 0 (omega arith)
-    ∙ ap (λ (x : List ℕ). get_or xs 6 0 ∷ x) (drop_more xs 7 0 (omega arith)
-    ∙ ap (λ (x : List ℕ). get_or xs 7 0 ∷ x) (drop_all 8 xs (omega arith)))))))))
-
-pub both_numbers : (xs : List ℕ) (m n : ℕ) → length xs ≡ 16 → bytes8 m ≡ first_eight (take 8 xs) → bytes8 n ≡ first_eight (take 8 (drop 8 xs)) → xs ≡ bytes8 m ++ bytes8 n
-both_numbers xs m n long first second =
-    let front : take 8 xs ≡ bytes8 m = eight_of (take 8 xs) (omega (arith, length-take 8 xs)) ∙ sym first in
-    let late : length (drop 8 xs) ≡ 8 = omega (arith, length-drop 8 xs) in
-    let back : drop 8 xs ≡ bytes8 n = sym (take_all 8 (drop 8 xs) (omega (arith, late))) ∙ eight_of (take 8 (drop 8 xs)) (omega (arith, length-take 8 (drop 8 xs), late)) ∙ sym second in
-    sym (take-append-drop 8 xs) ∙ ap (λ (x : List ℕ). x ++ drop 8 xs) front ∙ ap (λ (x : List ℕ). bytes8 m ++ x) back
+    λ i. record { answer = answer i; pairs = pairs i; ways = ways i }
 
 -- whatever the program has is an answer to may
 pub to_may : (a : code.Answer) → ToMay (answer_of a)
 to_may (answers.MayYes cut) = tt
 to_may answers.MayNo = tt
-
--- and put together again
-pub from_three : (fs xs : List ℕ) (f : ℕ) → 3 ≤ length fs → get_or fs 0 0 ≡ 77 → get_or fs 1 0 ≡ 1 → get_or fs 2 0 ≡ f → drop 3 fs ≡ xs → fs ≡ 77 ∷ (1 ∷ (f ∷ xs))
-from_three fs xs f le a b c rest = let e = three fs le in cc

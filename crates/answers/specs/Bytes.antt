@@ -1,6 +1,7 @@
 -- The numbers and the bytes of questions, answers and replies, high byte first.
 -- Assumes nothing.
 use Rattle.std.specs.Prelude.{ℕ, ◌/◌, ◌%◌, ◌^◌, List, [], ◌∷◌, ◌++◌}
+use Rattle.std.specs.List.{flat_map}
 use Rattle.records.specs.Record.{bytes2, bytes4}
 use Rattle.moments.specs.Stretches.{Stretch}
 use Rattle.answers.specs.Answer as said
@@ -16,12 +17,10 @@ abbrev pub bytes8 : ℕ → List ℕ
 bytes8 n = bytes4 (n / 2 ^ 32) ++ bytes4 (n % 2 ^ 32)
 
 abbrev pub each2 : List ℕ → List ℕ
-each2 [] = []
-each2 (x ∷ xs) = bytes2 x ++ each2 xs
+each2 xs = flat_map bytes2 xs
 
 abbrev pub each8 : List ℕ → List ℕ
-each8 [] = []
-each8 (x ∷ xs) = bytes8 x ++ each8 xs
+each8 xs = flat_map bytes8 xs
 
 abbrev pub stretches_bytes : List Stretch → List ℕ
 stretches_bytes [] = []

@@ -1,6 +1,6 @@
 -- What questions, answers and replies of the program stand for, and what reading an answer promises.
 -- Assumes nothing.
-use Rattle.std.specs.Prelude.{◌≡◌, ℕ, ◌^◌, ◌<◌, List, [], ◌∷◌, Some, None, vec_items, Option, ◌≢◌, slice_index}
+use Rattle.std.specs.Prelude.{◌≡◌, ℕ, ◌^◌, ◌<◌, List, ◌∷◌, Some, None, vec_items, Option, ◌≢◌}
 use Rattle.answers.specs.declared.question.Question as code
 use Rattle.answers.specs.declared.question.Question.TheVariants as questions
 use Rattle.answers.specs.declared.answer.Answer as code_answer
@@ -36,7 +36,3 @@ AnswerRead bs (Some a) = (bs ≡ counted_bytes (counted_of a)) × ((b : said.Cou
 abbrev pub FrontRead : List ℕ → Option code_answer.Answer → Type 0
 FrontRead fs None = (a : said.Answer) → ToMay a → fs ≢ 77 ∷ answer_bytes a
 FrontRead fs (Some a) = fs ≡ 77 ∷ answer_bytes (answer_of a)
-
--- the first eight of a list
-abbrev pub first_eight : List ℕ → List ℕ
-first_eight xs = slice_index xs 0 ∷ (slice_index xs 1 ∷ (slice_index xs 2 ∷ (slice_index xs 3 ∷ (slice_index xs 4 ∷ (slice_index xs 5 ∷ (slice_index xs 6 ∷ (slice_index xs 7 ∷ [])))))))

@@ -7,7 +7,7 @@ fn write_counts<W: fmt::Write>(f: &mut fmt::Formatter<W>, counts: &[u16]) -> fmt
     for count in counts {
         write!(f, " {count}")?;
     }
-    writeln!(f, "")
+    writeln!(f)
 }
 
 // How far each machine has come, so that the doing can be found in its record.

@@ -3,7 +3,9 @@
 #![tactic(auto)]
 
 pub mod refusals;
+pub mod stop;
 
+use crate::stop::{FileError, Stop};
 use records::reading::TELLING;
 use std::fs::File;
 use std::io::Read;
@@ -11,11 +13,12 @@ use std::{env, fs, io};
 
 // The words of the command line after the program's name.
 pub fn words(rt: &HostRuntime) -> anyhow::Result<Vec<String>> {
-    let mut words = Vec::new(rt.alloc());
-    for word in env::args(rt)?.skip(1) {
-        words.push(word)?;
-    }
-    Ok(words)
+    Ok(env::args(rt)?.skip(1).collect(rt.alloc())?)
+}
+
+// Those words as `match` takes them.
+pub fn texts<'a>(rt: &HostRuntime, words: &'a [String]) -> anyhow::Result<Vec<&'a str>> {
+    Ok(words.iter().map(|word| word.as_str()).collect(rt.alloc())?)
 }
 
 // The first bytes of a file, at most so many: a larger file is never kept in memory whole.
@@ -31,23 +34,17 @@ pub fn read_all(rt: &HostRuntime, name: &str) -> io::Result<Vec<u8>> {
     fs::read(rt, name)
 }
 
-// What the records' files begin with, as far as it tells; or `None` where one can't be read, which the program named says.
-pub fn beginnings(
+// What the records' files begin with, as far as it tells.
+pub fn beginnings<'a>(
     rt: &HostRuntime,
-    program: &str,
-    names: &[String],
-) -> anyhow::Result<Option<Vec<Vec<u8>>>> {
+    names: &[&'a str],
+) -> Result<Vec<Vec<u8>>, Stop<FileError<'a>>> {
     let mut files = Vec::new(rt.alloc());
     for name in names {
-        match read_beginning(rt, name.as_str(), TELLING) {
-            Ok(bytes) => files.push(bytes)?,
-            Err(error) => {
-                eprintln!(rt; "{program}: {name} can't be read: {error}")?;
-                return Ok(None);
-            }
-        }
+        let beginning = read_beginning(rt, name, TELLING);
+        files.push(beginning.map_err(|error| FileError::Unread(name, error))?)?;
     }
-    Ok(Some(files))
+    Ok(files)
 }
 
 // Writes a file beside the one that is named, which then takes its place, so that none is ever half written.

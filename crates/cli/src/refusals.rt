@@ -1,73 +1,78 @@
 // Refusals in words.
 use records::place::Place;
 use records::refusal::Refusal;
+use std::{fmt, io};
 
-// What a refusal by form is about; the file, where there is one, is named.
-fn tell_form(rt: &HostRuntime, place: Place, names: &[String]) -> anyhow::Result<()> {
-    let doing = place.doing;
+// What a refusal means. The files of the records are named.
+#[derive(Clone, Copy)]
+pub struct Why<'a> {
+    pub refusal: &'a Refusal,
+    pub names: &'a [&'a str],
+}
+
+// A refusal by form; the file, where there is one, is named.
+fn write_form<W: fmt::Write>(
+    f: &mut fmt::Formatter<W>,
+    place: Place,
+    names: &[&str],
+) -> fmt::Result {
     let Some(name) = names.get(place.machine as usize) else {
-        println!(rt; "There is no record.")?;
-        return Ok(());
+        return writeln!(f, "There is no record.");
     };
     match place {
-        Place { machine: 40, .. } => println!(rt;
+        Place { machine: 40, .. } => writeln!(
+            f,
             "There are more than 40 records; {name} is the first too many."
-        )?,
-        Place { machine, doing: 0 } => println!(rt;
+        ),
+        Place { machine, doing: 0 } => writeln!(
+            f,
             "{name} is no record of machine {machine}: what stands before its first doing is wrong or cut short, or more follows where there is none."
-        )?,
-        Place { machine, .. } => println!(rt;
+        ),
+        Place { machine, doing } => writeln!(
+            f,
             "{name} is no record of machine {machine}: its doing {doing} is wrong or cut short, or more follows after its last."
-        )?,
+        ),
     }
-    Ok(())
 }
 
 // A ring, doing by doing.
-fn tell_ring(rt: &HostRuntime, ring: &[Place]) -> anyhow::Result<()> {
-    println!(rt;
+fn write_ring<W: fmt::Write>(f: &mut fmt::Formatter<W>, ring: &[Place]) -> fmt::Result {
+    writeln!(
+        f,
         "No run can have made these records: each of these doings comes before the next, and the last before the first."
     )?;
-    for place in ring {
-        let machine = place.machine;
-        let doing = place.doing;
-        println!(rt; "  doing {doing} of machine {machine}")?;
+    for Place { machine, doing } in ring {
+        writeln!(f, "  doing {doing} of machine {machine}")?;
     }
     Ok(())
 }
 
-// What is refused, in words.
-pub fn tell_why(rt: &HostRuntime, refusal: &Refusal, names: &[String]) -> anyhow::Result<()> {
-    match refusal {
-        Refusal::Form(place) => tell_form(rt, *place, names),
-        Refusal::Again(place) => {
-            let machine = place.machine;
-            let doing = place.doing;
-            println!(rt;
+impl fmt::Display for Why<'_> {
+    fn fmt<W: fmt::Write>(&self, f: &mut fmt::Formatter<W>) -> fmt::Result {
+        match self.refusal {
+            Refusal::Form(place) => write_form(f, *place, self.names),
+            Refusal::Again(Place { machine, doing }) => writeln!(
+                f,
                 "Doing {doing} of machine {machine} sends a letter that was sent already, or gets one that was got already."
-            )?;
-            Ok(())
+            ),
+            Refusal::Unsent(Place { machine, doing }) => {
+                writeln!(
+                    f,
+                    "Doing {doing} of machine {machine} gets a letter that nobody sent."
+                )
+            }
+            Refusal::Ring(ring) => write_ring(f, ring),
         }
-        Refusal::Unsent(place) => {
-            let machine = place.machine;
-            let doing = place.doing;
-            println!(rt; "Doing {doing} of machine {machine} gets a letter that nobody sent.")?;
-            Ok(())
-        }
-        Refusal::Ring(ring) => tell_ring(rt, ring),
     }
 }
 
 // A refusal: a line that programs can read, then what it means.
-pub fn tell_refusal(rt: &HostRuntime, refusal: &Refusal, names: &[String]) -> anyhow::Result<()> {
+pub fn tell_refusal(rt: &HostRuntime, refusal: &Refusal, names: &[&str]) -> io::Result<()> {
     let number = refusal.number();
     print!(rt; "refused {number} at")?;
-    let places = refusal.places(rt.alloc())?;
-    for place in &places {
-        let machine = place.machine;
-        let doing = place.doing;
+    for Place { machine, doing } in &refusal.places(rt.alloc())? {
         print!(rt; " {machine} {doing}")?;
     }
-    println!(rt; "")?;
-    tell_why(rt, refusal, names)
+    let why = Why { refusal, names };
+    print!(rt; "\n{why}")
 }

@@ -1,13 +1,14 @@
 // `encode MACHINE TEXT RECORD`: a machine's record from a text that people can write.
 #![tactic(auto)]
 
-use cli::{words, write_whole};
+use cli::stop::{FileError, Stop, help, status};
+use cli::{texts, words, write_whole};
 use records::doing::{Doing, Kind};
 use records::record::Record;
-use records::writing::{Writing, write_record};
+use records::writing::{Beyond, write_record};
 use std::alloc::Global;
-use std::fs;
 use std::process::ExitCode;
+use std::{fmt, fs};
 
 const USAGE: &str = "usage: encode MACHINE TEXT RECORD
   MACHINE  the machine's number, 0 to 39
@@ -19,36 +20,57 @@ const USAGE: &str = "usage: encode MACHINE TEXT RECORD
            What follows # is passed over, and so are empty lines.
   RECORD   the file that the record is written to";
 
-// How encoding ended. All but `Written` end with status 1.
-#[derive(Clone, Copy)]
-enum End {
-    Written,
-    Failed,
+// Why no record is made.
+#[derive(Drop)]
+enum TextError<'a> {
+    File(FileError<'a>),
+    // the text has no line for how things were at first
+    Empty(&'a str),
+    // nothing known is in the line of this number
+    Unclear(&'a str, usize),
+    // so much of it is beyond the limits
+    Beyond(Beyond),
 }
 
-// What a text says: a record, nothing, or nothing known in the line of this number.
-#[derive(Drop)]
-enum Text {
-    Record(Record),
-    Empty,
-    Unclear(usize),
+impl<'a> From<FileError<'a>> for TextError<'a> {
+    fn from(error: FileError<'a>) -> TextError<'a> {
+        TextError::File(error)
+    }
+}
+
+impl fmt::Display for TextError<'_> {
+    fn fmt<W: fmt::Write>(&self, f: &mut fmt::Formatter<W>) -> fmt::Result {
+        match self {
+            TextError::File(error) => write!(f, "{error}"),
+            TextError::Empty(text) => {
+                write!(f, "{text} has no line for how things were at first")
+            }
+            TextError::Unclear(text, line) => {
+                write!(f, "{text}, line {line}, is not as `encode --help` says")
+            }
+            TextError::Beyond(Beyond::Head) => write!(
+                f,
+                "the amount at first is beyond 1000000, or there are more than 500 doings"
+            ),
+            TextError::Beyond(Beyond::Doing(doing)) => write!(
+                f,
+                "doing {doing} is beyond the limits: an amount above 1000000, or letter 0"
+            ),
+        }
+    }
 }
 
 // A number in digits alone.
 fn number(word: &str) -> Option<u32> {
-    for byte in word.bytes() {
-        if !byte.is_ascii_digit() {
-            return None;
-        }
+    if !word.bytes().all(|byte| byte.is_ascii_digit()) {
+        return None;
     }
-    word.parse::<u32>().ok()
+    word.parse().ok()
 }
 
 fn machine(word: &str) -> Option<u8> {
-    match number(word) {
-        Some(machine) if machine < 40 => Some(machine as u8),
-        _ => None,
-    }
+    let machine = u8::try_from(number(word)?).ok();
+    machine.filter(|machine| *machine < 40)
 }
 
 // The state after a doing and what it did, in a line's words.
@@ -66,10 +88,10 @@ fn doing(line: &str) -> Option<Doing> {
         Some("gets") => Kind::Gets(number(words.next()?)?),
         Some(_) => return None,
     };
-    if words.next().is_some() {
-        return None;
+    match words.next() {
+        None => Some(Doing { kind, sign, amount }),
+        Some(_) => None,
     }
-    Some(Doing { kind, sign, amount })
 }
 
 // A line up to its comment.
@@ -77,96 +99,72 @@ fn uncommented(line: &str) -> &str {
     line.split('#').next().unwrap_or("").trim()
 }
 
-// The record that the lines say: the first is how things were at first, each other a doing.
-fn record(heap: Global, text: &str) -> anyhow::Result<Text> {
-    let mut first = None;
+// The record that the lines of the text say: the first is how things were at first, each other a doing.
+fn record<'a>(heap: Global, name: &'a str, text: &str) -> Result<Record, Stop<TextError<'a>>> {
+    let mut lines = text
+        .lines()
+        .map(uncommented)
+        .zip(1usize..)
+        .filter(|(line, _)| !line.is_empty());
+    let Some((first, number)) = lines.next() else {
+        return Err(Stop::Told(TextError::Empty(name)));
+    };
+    let Some(
+        Doing {
+            kind: Kind::Neither,
+            sign,
+            amount,
+        },
+    ) = doing(first)
+    else {
+        return Err(Stop::Told(TextError::Unclear(name, number)));
+    };
     let mut doings = Vec::new(heap);
-    for (above, line) in text.lines().enumerate() {
-        let said = uncommented(line);
-        if said.is_empty() {
-            continue;
+    for (line, number) in lines {
+        let Some(doing) = doing(line) else {
+            return Err(Stop::Told(TextError::Unclear(name, number)));
+        };
+        doings.push(doing)?;
+    }
+    Ok(Record {
+        sign,
+        amount,
+        doings,
+    })
+}
+
+fn encode<'a>(
+    rt: &HostRuntime,
+    machine: u8,
+    text: &'a str,
+    name: &'a str,
+) -> Result<ExitCode, Stop<TextError<'a>>> {
+    let lines = fs::read_to_string(rt, text).map_err(|error| FileError::Unread(text, error))?;
+    let recorded = record(rt.alloc(), text, lines.as_str())?;
+    let bytes = match write_record(rt.alloc(), &recorded, machine) {
+        Ok(bytes) => bytes,
+        Err(failure) => return Err(Stop::Told(TextError::Beyond(failure.refused()?))),
+    };
+    let written = write_whole(rt, name, &bytes);
+    written.map_err(|error| FileError::Unwritten(name, error))?;
+    Ok(ExitCode::SUCCESS)
+}
+
+fn run<'a>(rt: &HostRuntime, words: &[&'a str]) -> Result<ExitCode, Stop<TextError<'a>>> {
+    match words {
+        ["--help"] => help(rt, USAGE),
+        [number, text, name] => {
+            let Some(machine) = machine(number) else {
+                return Err(Stop::Usage);
+            };
+            encode(rt, machine, text, name)
         }
-        match (first, doing(said)) {
-            (None, Some(state)) if matches!(state.kind, Kind::Neither) => first = Some(state),
-            (Some(_), Some(doing)) => doings.push(doing)?,
-            _ => return Ok(Text::Unclear(above.saturating_add(1))),
-        }
+        _ => Err(Stop::Usage),
     }
-    match first {
-        None => Ok(Text::Empty),
-        Some(state) => Ok(Text::Record(Record {
-            sign: state.sign,
-            amount: state.amount,
-            doings,
-        })),
-    }
-}
-
-// Why there is no record, as told to the user.
-fn fail(rt: &HostRuntime, why: String) -> anyhow::Result<End> {
-    eprintln!(rt; "encode: {why}")?;
-    Ok(End::Failed)
-}
-
-fn write(rt: &HostRuntime, machine: u8, recorded: &Record, name: &str) -> anyhow::Result<End> {
-    let heap = rt.alloc();
-    let writing = write_record(heap, recorded, machine)?;
-    match writing {
-        Writing::Beyond(0) => fail(
-            rt,
-            format!(in heap;
-                "the amount at first is beyond 1000000, or there are more than 500 doings"
-            )?,
-        ),
-        Writing::Beyond(doing) => fail(
-            rt,
-            format!(in heap;
-                "doing {doing} is beyond the limits: an amount above 1000000, or letter 0"
-            )?,
-        ),
-        Writing::Whole(bytes) => match write_whole(rt, name, &bytes) {
-            Ok(()) => Ok(End::Written),
-            Err(error) => fail(rt, format!(in heap; "{name} can't be written: {error}")?),
-        },
-    }
-}
-
-fn encode(rt: &HostRuntime, machine: u8, text: &str, name: &str) -> anyhow::Result<End> {
-    let heap = rt.alloc();
-    match fs::read_to_string(rt, text) {
-        Err(error) => fail(rt, format!(in heap; "{text} can't be read: {error}")?),
-        Ok(lines) => match record(heap, lines.as_str())? {
-            Text::Empty => fail(
-                rt,
-                format!(in heap; "{text} has no line for how things were at first")?,
-            ),
-            Text::Unclear(line) => fail(
-                rt,
-                format!(in heap; "{text}, line {line}, is not as `encode --help` says")?,
-            ),
-            Text::Record(recorded) => write(rt, machine, &recorded, name),
-        },
-    }
-}
-
-fn run(rt: &HostRuntime) -> anyhow::Result<End> {
-    let words = words(rt)?;
-    if words.len() == 1 && words[0].as_str() == "--help" {
-        println!(rt; "{USAGE}")?;
-        return Ok(End::Written);
-    }
-    if words.len() == 3 {
-        if let Some(machine) = machine(words[0].as_str()) {
-            return encode(rt, machine, words[1].as_str(), words[2].as_str());
-        }
-    }
-    eprintln!(rt; "{USAGE}")?;
-    Ok(End::Failed)
 }
 
 fn main(rt: HostRuntime) -> anyhow::Result<ExitCode> {
-    match run(&rt)? {
-        End::Written => Ok(ExitCode::SUCCESS),
-        _ => Ok(ExitCode::FAILURE),
-    }
+    let words = words(&rt)?;
+    let texts = texts(&rt, &words)?;
+    status(&rt, "encode", USAGE, run(&rt, &texts))
 }

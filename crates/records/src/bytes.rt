@@ -1,6 +1,7 @@
 // Bytes that say a value.
 ghost use Rattle.std.specs.Prelude.{◌≡◌, ℕ, List, ◌++◌, OnOk};
 ghost use Rattle.std.specs.List.{flat_map};
+ghost use Rattle.records.specs.Record.{bytes2};
 
 use std::alloc::AllocError;
 
@@ -11,6 +12,14 @@ pub trait Bytes {
     // Puts them behind what is there.
     fn put(&self, out: &mut Vec<u8>) -> Result<(), AllocError>
         ensures { OnOk result (out.new.items ≡ out.old.items ++ bytes self.now) };
+}
+
+impl Bytes for u16 {
+    ghost bytes = { bytes2 };
+
+    fn put(&self, out: &mut Vec<u8>) -> Result<(), AllocError> {
+        out.extend_from_slice(&self.to_be_bytes())
+    }
 }
 
 // Puts the bytes of each behind what is there.
