@@ -1,11 +1,9 @@
 -- Going through the doings in order, and noting each.
-use Rattle.std.proofs.Common.{◌≡◌, ℕ, ◌+◌, ◌<◌, ◌≤◌, Bool, true, false, ◌⊎◌, List, length, get_or, is_some, Some, None, vec_items, Option, sym, refl, ap, ◌∙◌, subst, inl, inr, true≢false, arith}
+use Rattle.std.proofs.Common.{◌≡◌, ℕ, ◌+◌, ◌<◌, ◌≤◌, Bool, true, false, ◌⊎◌, List, length, is_some, Some, None, Option, sym, refl, ap, ◌∙◌, subst, inl, inr, true≢false, arith}
 use native.Mathlib.Decide.{ℕ_discrete}
 use Rattle.records.specs.declared.doing.Kind.{Kind}
 use Rattle.records.specs.declared.doing.Kind.TheVariants.{Neither}
-use Rattle.records.specs.declared.doing.Doing.{Doing}
-use Rattle.records.specs.declared.record.Record as code
-use Rattle.records.specs.Record.{Record, records_of, kind_of, did_of}
+use Rattle.records.specs.Record.{Record, kind_of, did_of}
 use Rattle.records.specs.Refusal.{Earlier, FirstPlace, Again}
 use Rattle.records.specs.declared.place.Place.{Place}
 use Rattle.letters.specs.declared.seen.Seen.{Seen}

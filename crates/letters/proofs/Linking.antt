@@ -1,13 +1,11 @@
 -- Letters that were got, each with its sending.
-use Rattle.std.proofs.Common.{◌≡◌, ℕ, ◌+◌, ◌<◌, ◌≤◌, ◌⊎◌, List, [], ◌∷◌, ◌++◌, length, get_or, is_some, None, vec_items, Option, sym, refl, ap, ◌∙◌, subst, inl, inr, true≢false, arith}
+use Rattle.std.proofs.Common.{◌≡◌, ℕ, ◌+◌, ◌<◌, ◌≤◌, ◌⊎◌, List, [], ◌∷◌, ◌++◌, length, is_some, None, sym, refl, ap, ◌∙◌, subst, inl, inr, true≢false, arith}
 use mathlib.Core.List.Memᴰ
 use mathlib.Core.List.{Memᴰ}
 use Rattle.records.specs.declared.doing.Kind.{Kind}
 use Rattle.records.specs.declared.doing.Kind.TheVariants.{Neither, Sends, Gets}
-use Rattle.records.specs.declared.doing.Doing.{Doing}
 use Rattle.records.specs.declared.place.Place.{Place}
-use Rattle.records.specs.declared.record.Record as code
-use Rattle.records.specs.Record.{Record, records_of, letter_in, kind_of, did_of}
+use Rattle.records.specs.Record.{Record, letter_in, kind_of, did_of}
 use Rattle.records.specs.Refusal.{Earlier, FirstPlace, Again, Unsent}
 use Rattle.letters.specs.declared.letter.Letter.{Letter}
 use Rattle.letters.specs.declared.seen.Seen.{Seen}

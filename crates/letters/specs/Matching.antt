@@ -1,13 +1,13 @@
 -- Letters that were got, each with its sending: what matching promises.
 -- Assumes nothing.
-use Rattle.std.specs.Prelude.{◌≡◌, ℕ, ◌+◌, List, [], ◌∷◌, Some, None, vec_items, Option}
+use Rattle.std.specs.Prelude.{◌≡◌, ℕ, ◌+◌, List, [], ◌∷◌}
 use mathlib.Core.List.{Memᴰ}
 use Rattle.records.specs.declared.doing.Kind.TheVariants.{Sends, Gets}
 use Rattle.records.specs.declared.doing.Doing.{Doing}
 use Rattle.records.specs.declared.place.Place.{Place}
 use Rattle.records.specs.declared.refusal.Refusal.{Refusal}
 use Rattle.records.specs.Record.{Record, machine_of, kind_of}
-use Rattle.records.specs.Refusal.{Earlier, FirstPlace, Again, Unsent}
+use Rattle.records.specs.Refusal.{Earlier, Again, Unsent}
 use Rattle.letters.specs.declared.letter.Letter.{Letter}
 use Rattle.letters.specs.declared.seen.Seen.{Seen}
 use Rattle.letters.specs.Noting.{place, Noted, Wrong}

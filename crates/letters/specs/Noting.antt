@@ -1,13 +1,13 @@
 -- What noting doings one by one promises.
 -- Assumes nothing.
-use Rattle.std.specs.Prelude.{◌≡◌, ℕ, ◌+◌, ◌≤◌, true, List, length, is_some, Some, None, Option, ◌≢◌}
+use Rattle.std.specs.Prelude.{◌≡◌, ℕ, ◌+◌, true, List, is_some, Some, ◌≢◌}
 use Rattle.records.specs.declared.doing.Kind.{Kind}
 use Rattle.records.specs.declared.doing.Kind.TheVariants.{Neither}
 use Rattle.records.specs.declared.doing.Doing.{Doing}
 use Rattle.records.specs.declared.place.Place.{Place}
 use Rattle.records.specs.declared.refusal.Refusal.{Refusal}
 use Rattle.records.specs.declared.refusal.Refusal.TheVariants as why
-use Rattle.records.specs.Record.{Record, machine_of, did_of, kind_of}
+use Rattle.records.specs.Record.{Record, machine_of, kind_of}
 use Rattle.records.specs.Refusal.{Earlier, FirstPlace, Again, Unsent}
 use Rattle.letters.specs.declared.seen.Seen.{Seen}
 use Rattle.letters.specs.Seen.{seen_at}

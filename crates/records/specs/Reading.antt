@@ -1,13 +1,13 @@
 -- What reading promises: of a doing, a head, doings, a record, and files.
 -- Assumes nothing.
-use Rattle.std.specs.Prelude.{◌≡◌, ℕ, ◌+◌, ◌*◌, ◌<◌, ◌≤◌, Bool, List, ◌++◌, map, length, take, drop, vec_items, vec_len, Vec, ◌≢◌}
+use Rattle.std.specs.Prelude.{◌≡◌, ℕ, ◌+◌, ◌*◌, ◌<◌, ◌≤◌, Bool, List, ◌++◌, map, length, take, drop, vec_items, Vec, ◌≢◌}
 use Rattle.std.specs.declared.alloc.Global.{Global}
 use Rattle.records.specs.declared.doing.Kind.{Kind}
 use Rattle.records.specs.declared.doing.Doing.{Doing}
 use Rattle.records.specs.declared.place.Place.{Place}
 use Rattle.records.specs.declared.record.Head.{Head}
-use Rattle.records.specs.Record.{Record, record_of, records_of, KindFits, DoingFits, DoingsFit, RecordFits, kind_code, letter_in, head_bytes, doing_bytes, doings_bytes, record_bytes, did_of}
-use Rattle.records.specs.Refusal.{FirstPlace, Read, FileFault, FormFault}
+use Rattle.records.specs.Record.{Record, KindFits, DoingFits, DoingsFit, RecordFits, kind_code, letter_in, head_bytes, doing_bytes, doings_bytes, record_bytes, did_of}
+use Rattle.records.specs.Refusal.{FirstPlace, Read, FormFault}
 
 -- the byte and the letter's number say this kind, or no kind that fits
 abbrev pub IsKind : ℕ → ℕ → Kind → Type 0

@@ -1,10 +1,10 @@
 -- What writing a record promises.
 -- Assumes nothing.
-use Rattle.std.specs.Prelude.{◌≡◌, ℕ, ◌+◌, ◌<◌, ◌≤◌, ◌⊎◌, List, ◌∷◌, ◌++◌, length, Some, None, vec_items, Option}
+use Rattle.std.specs.Prelude.{◌≡◌, ℕ, ◌+◌, ◌<◌, ◌≤◌, ◌⊎◌, List, ◌∷◌, ◌++◌, length}
 use Rattle.records.specs.declared.doing.Doing.{Doing}
 use Rattle.records.specs.declared.writing.Beyond as beyond
 use Rattle.records.specs.declared.writing.Beyond.TheVariants as told
-use Rattle.records.specs.Record.{Record, DoingFits, DoingsFit, RecordFits, doings_bytes, record_bytes}
+use Rattle.records.specs.Record.{Record, DoingFits, DoingsFit, RecordFits, record_bytes}
 use Rattle.records.specs.Refusal.{FileFault}
 
 -- doing m is the first of these that is beyond the limits

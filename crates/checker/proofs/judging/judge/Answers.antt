@@ -1,6 +1,4 @@
-use Rattle.std.proofs.Common.{refl}
 use Rattle.std.proofs.lemmas.Result.{IfOk-weaker}
-use Rattle.records.specs.Reading.{files_of}
 use Rattle.checker.proofs.SaidOfRecords.{may_judged, of_question}
 use Rattle.checker.proofs.OneVerdict.{one_verdict}
 use Rattle.checker.proofs.judging.judge.Goals as goal

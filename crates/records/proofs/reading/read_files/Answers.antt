@@ -1,4 +1,4 @@
-use Rattle.std.proofs.Common.{◌≡◌, ℕ, ◌≤◌, List, length, vec_items, arith, rules}
+use Rattle.std.proofs.Common.{◌≡◌, ◌≤◌, length, vec_items, arith, rules}
 use Rattle.std.proofs.lemmas.List.{length-map}
 use Rattle.records.specs.Record.{records_of, record_of}
 use Rattle.records.specs.Refusal.{FileFault, Read}

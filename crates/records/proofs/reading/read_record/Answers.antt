@@ -1,5 +1,4 @@
-use Rattle.std.proofs.Common.{◌≡◌, ℕ, refl, subst, sym, vec_items, arith}
-use Rattle.records.specs.Refusal.{FileFault}
+use Rattle.std.proofs.Common.{refl, vec_items, arith}
 use Rattle.records.specs.Reading.{Begin, NoDoingAt}
 use Rattle.records.proofs.HandedOn.{handed_on, form_weaker}
 use Rattle.records.proofs.OneFile.{no_head, behind, doing_fault, too_long, whole}

@@ -1,8 +1,8 @@
-use Rattle.std.proofs.Common.{◌≡◌, ℕ, ◌≤◌, ◌<◌, ◌++◌, length, vec_items, vec_len, sym, ap, ◌∙◌, subst, arith}
+use Rattle.std.proofs.Common.{◌<◌, ◌++◌, length, vec_items, sym, ap, ◌∙◌, arith}
 use Rattle.std.proofs.lemmas.List.{length-map}
-use Rattle.records.specs.Record.{Record, record_of, records_of, machine_of}
+use Rattle.records.specs.Record.{Record, record_of, records_of}
 use Rattle.letters.proofs.Machines.{record_at}
-use Rattle.runs.specs.Making.{states_of, Laid}
+use Rattle.runs.specs.Making.{states_of}
 use Rattle.runs.proofs.Layouts.{laid_more, all_short}
 use Rattle.runs.proofs.making.lay_out.Goals as goal
 

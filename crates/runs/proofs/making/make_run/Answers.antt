@@ -1,8 +1,7 @@
-use Rattle.std.proofs.Common.{◌≡◌, length, vec_items, sym, refl, ◌∙◌, arith}
+use Rattle.std.proofs.Common.{vec_items, sym, refl, ◌∙◌, arith}
 use Rattle.std.proofs.lemmas.List.{length-map}
 use Rattle.std.specs.Vec.{with_items}
 use Rattle.records.specs.Record.{record_of, records_of}
-use Rattle.runs.specs.Making.{Laid}
 use Rattle.runs.proofs.Made.{laid_as, within_as, linked_as, indices_within, shapes, run_of_lem}
 use Rattle.runs.proofs.making.make_run.Goals as goal
 
