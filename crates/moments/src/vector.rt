@@ -16,5 +16,5 @@ pub fn vector(ordered: &Ordered, machine: usize, doing: u16) -> Counts
     ensures lowest { LowestWith (run_of ordered.now.run) machine doing (counts_of result) }
     ensures always { VectorsLowest }
 {
-    ordered.rows[ordered.run.starts.of[machine] as usize + doing as usize]
+    ordered.rows[ordered.run.index(machine, doing)]
 }

@@ -16,7 +16,7 @@ fn row_at(run: &Run, rows: &[Counts], machine: usize, done: u16) -> Counts
     requires long { length rows.now ≡ vec_len run.now.states }
     ensures { result ≡ rows_in run.now rows.now machine done }
 {
-    rows[run.starts.of[machine] as usize + done as usize]
+    rows[run.index(machine, done)]
 }
 
 // The row of a machine's next doing, if what it gets has been sent, and the pairs joined for it.
@@ -58,7 +58,7 @@ fn step(run: &Run, rows: &mut [Counts], so_far: Progress, machine: usize) -> Opt
     let done = so_far.cut.of[machine];
     let next = run.next(machine, done)?;
     let (row, pairs) = row_of(run, rows, so_far.cut, machine, next)?;
-    rows[run.starts.of[machine] as usize + next as usize] = row;
+    rows[run.index(machine, next)] = row;
     Some(Progress {
         cut: so_far.cut.with(machine, next),
         pairs: so_far.pairs + pairs,
@@ -81,6 +81,7 @@ pub(crate) fn fill(
         pairs: 0,
     };
     'anew: loop {
+        // A rule of the project keeps the labelled loop over machines, which is begun anew when one has gone on.
         for machine in 0..run.count {
             if let Some(further) = step(run, rows, so_far, machine) {
                 turns.push(machine as u8)?;

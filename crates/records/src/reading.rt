@@ -86,6 +86,7 @@ fn read_doings(
     ensures refused { IfRefused result (IsForm (λ place. (place.machine ≡ machine) × NoDoingAt bytes.now count place.doing)) }
 {
     let mut doings = Vec::new(heap);
+    // Counted, and not a loop over the bytes: they may end before so many doings do, and it is told at which.
     for before in 0..count {
         let Some(doing) = read_doing(&bytes[10 * before as usize..]) else {
             return Err(at_fault(machine, before + 1));

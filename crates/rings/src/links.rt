@@ -1,5 +1,5 @@
 // The steps between the doings of a run by number.
-ghost use Rattle.std.specs.Prelude.{◌<◌, ◌≤◌, T, length};
+ghost use Rattle.std.specs.Prelude.{◌<◌, ◌≤◌, ◌↔◌, IsTrue, length};
 ghost use Rattle.rings.specs.Links.{In, Within, SentFrom};
 
 // What leads to a doing: the machine's doing before, if it has one, and the number of the sending of what it gets.
@@ -34,8 +34,7 @@ impl Links {
     pub(crate) fn leads(&self, v: usize, w: usize) -> bool
         requires from { v < length self.now.of.items }
         requires to { w < length self.now.of.items }
-        ensures yes { T result → In self.now.of.items v w }
-        ensures all { In self.now.of.items v w → T result }
+        ensures { IsTrue result ↔ In self.now.of.items v w }
     {
         let link = self.of[w];
         link.letter == Some(v) || (link.own && w == v + 1)

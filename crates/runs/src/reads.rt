@@ -1,19 +1,32 @@
 // Looks at a run.
-ghost use Rattle.std.specs.Prelude.{◌≡◌, ◌+◌, ◌<◌, ◌≤◌, MatchOption, slice_index};
+ghost use Rattle.std.specs.Prelude.{◌≡◌, ◌+◌, ◌<◌, ◌≤◌, MatchOption, slice_index, vec_len};
+ghost use Rattle.runs.specs.Shape.{index};
 ghost use Rattle.runs.specs.Model.{state_of, sending_of, signs_of, amounts_of};
 
 use crate::run::Run;
 use crate::state::State;
 use records::place::Place;
 
+// A machine and how many of its doings are behind it are two numbers beside the run: a struct of the three would bring a run of its
+// own, and each function with a table of the run beside it would have to ask that the two are the same.
 impl Run {
+    // Where a machine's state after so many doings stands.
+    pub fn index(&self, machine: usize, done: u16) -> usize
+        requires inside { machine < self.now.count }
+        requires done { done ≤ slice_index self.now.did.of machine }
+        ensures here { result ≡ index self.now.starts machine done }
+        ensures within { result < vec_len self.now.states }
+    {
+        self.starts.of[machine] as usize + done as usize
+    }
+
     // A machine after so many doings.
     fn state(&self, machine: usize, done: u16) -> State
         requires inside { machine < self.now.count }
         requires done { done ≤ slice_index self.now.did.of machine }
         ensures { result ≡ state_of self.now machine done }
     {
-        self.states[self.starts.of[machine] as usize + done as usize]
+        self.states[self.index(machine, done)]
     }
 
     // Where the letter was sent that a machine's doing got.

@@ -32,7 +32,7 @@ returns c =
     let few : j < 40 = omega (arith, c.requires.inside, run.most) in
     let here : counts_of c.with.result j ≡ m = set_here cut c.with.result j m few c.with.ensures in
     let rest = set_rest cut c.with.result j m few c.with.ensures in
-    record {
+    rw c.index.ensures.here (record {
       done = done_next (linked run) c.requires.done j (counts_of cut j) m c.requires.inside refl next.0 next.1 told.0
           (vectors_in run (set rows p row))
           (ap (λ (w : Counts). counts_of w j) at ∙ told.1.0)
@@ -44,4 +44,4 @@ returns c =
       one = here ∙ next.0;
       others = rest;
       joined = joined_more run (counts_of cut) (counts_of c.with.result) j m c.args.so_far.pairs c.in_ok-row.pairs c.requires.inside (here ∙ next.0) rest here c.requires.joined told.2;
-    }
+    })
