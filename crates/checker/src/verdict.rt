@@ -1,4 +1,5 @@
-// Verdicts. The type is alone here, so that definitions of contracts can name it.
+// Verdicts. The type is alone here, so that definitions of contracts can name it. It is no Result: that an answer does not show what it
+// says is no failure of the check.
 use records::refusal::Refusal;
 
 #[derive(Drop)]

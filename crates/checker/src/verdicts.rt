@@ -5,7 +5,7 @@ ghost use Rattle.checker.specs.Verdict.{verdict_number};
 use crate::verdict::Verdict;
 
 impl Verdict {
-    // None for what is shown.
+    // None for what is shown. By hand, since a refusal has its own.
     pub fn number(&self) -> Option<u8>
         ensures { result ≡ verdict_number self.now }
     {

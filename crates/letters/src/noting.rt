@@ -60,7 +60,8 @@ impl Seen {
     }
 }
 
-// Notes one machine's doings, up to the first that does again what an earlier one did.
+// Notes one machine's doings, up to the first that does again what an earlier one did. The limit on them is in the type of all
+// records; one machine's alone don't have it, so that it is asked for here and where they are matched.
 fn note_machine(seen: &mut Seen, machine: u8, doings: &[Doing]) -> Result<(), Failure<Refusal>>
     requires short { length doings.now ≤ 500 }
     ensures ok { OnOk result (MachineNoted machine doings.now seen.old seen.new) }

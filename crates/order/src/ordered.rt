@@ -14,6 +14,7 @@ pub struct Ordered {
     pub run: Run,
     // the machines in turn, each time with its next doing
     pub turns: Vec<u8>,
+    // beside the states and not in them: a rule of the project has them written while the run is lent to be read
     pub rows: Vec<Counts>,
     pub pairs: u64,
     ghost long: { vec_len rows ≡ vec_len run.states },

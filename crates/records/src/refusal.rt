@@ -30,7 +30,7 @@ impl Bytes for Place {
 }
 
 impl Refusal {
-    // The lower a number, the sooner it wins.
+    // The lower a number, the sooner it wins. No cast gives it, since a case with places has no number of its own.
     pub fn number(&self) -> u8
         ensures { result ≡ refusal_number self.now }
     {

@@ -18,7 +18,7 @@ pub enum Beyond {
 }
 
 impl Kind {
-    // The byte that says it.
+    // The byte that says it: no cast, since a case with a letter has no number of its own.
     fn code(self) -> u8
         ensures { result ≡ kind_code self }
     {
@@ -97,7 +97,8 @@ impl Head {
     }
 }
 
-// Puts the doings' bytes behind what is there, up to the first that is beyond the limits.
+// Puts the doings' bytes behind what is there, up to the first that is beyond the limits. That they are few is asked for, since a
+// record may have more, and is refused for that before.
 fn write_doings(doings: &[Doing], out: &mut Vec<u8>) -> Result<(), Failure<Beyond>>
     requires few { length doings.now ≤ 500 }
     ensures ok { OnOk result (DoingsFit doings.now × (out.new.items ≡ out.old.items ++ doings_bytes doings.now)) }

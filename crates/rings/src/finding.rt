@@ -56,6 +56,7 @@ fn shortest(heap: Global, links: &Links, table: &mut [u16]) -> Result<Option<Bes
     ensures { IfOk result (Shortest (In links.now.of.items) (length links.now.of.items) (length links.now.of.items)) }
 {
     let mut best = None;
+    // The number is the start itself, and no index: what leads to it is not read here.
     for t in 0..links.of.len() {
         best = better(heap, links, table, best, t)?;
     }

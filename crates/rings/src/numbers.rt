@@ -22,6 +22,7 @@ pub(crate) struct Numbers<'a> {
 fn push_machine(places: &mut Vec<Place>, machine: u8, did: u16) -> Result<(), AllocError>
     ensures { OnOk result (places.new.items ≡ places.old.items ++ places_of machine did) }
 {
+    // Counted: what `extend` says of a range's map is a run of it and no list, so that the proof did not close.
     for m in 0..did {
         places.push(Place {
             machine,

@@ -1,7 +1,8 @@
 // A number for each of forty machines.
 ghost use Rattle.std.specs.Prelude.{◌≡◌, ℕ, ◌<◌, ◌≤◌, max, length, slice_index, slice_set};
 
-// So many doings of each machine: a cut, a vector (vector clock), all that there are; or where each machine's states begin.
+// So many doings of each machine: a cut, a vector (vector clock), all that there are; or where each machine's states begin. A rule of
+// the project has an array of forty: so a cut is copied, set and joined with no memory that could run out.
 #[derive(Clone, Copy)]
 pub struct Counts {
     pub of: [u16; 40],

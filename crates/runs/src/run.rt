@@ -5,7 +5,8 @@ ghost use Rattle.runs.specs.Shape.{Few, Inside, Apart, Sent};
 use crate::counts::Counts;
 use crate::state::State;
 
-// The state of machine i after m doings, 0 too, stands at starts.of[i] + m.
+// The state of machine i after m doings, 0 too, stands at starts.of[i] + m. In one row, so that a row of vectors beside it is as long by
+// one fact: a list for each machine would need one for each, and a list of lists of vectors.
 #[derive(Drop)]
 pub struct Run {
     pub count: usize,
