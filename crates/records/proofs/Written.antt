@@ -7,7 +7,7 @@ use Rattle.records.specs.declared.record.Record as code
 use Rattle.records.specs.Record.{record_of, DoingFits, DoingsFit, RecordFits, head_bytes, doing_bytes, doings_bytes}
 use Rattle.records.specs.declared.writing.Beyond as told
 use Rattle.records.specs.declared.writing.Beyond.TheVariants as variant
-use Rattle.records.specs.Writing.{FirstBeyond, Beyond, Form, IsDoing, IsBeyond}
+use Rattle.records.specs.Writing.{FirstBeyond, Beyond, Form, AtDoing, IsBeyond}
 use Rattle.records.proofs.Forms.{fit_more}
 use Rattle.records.proofs.Faults.{no_fault_of}
 use Rattle.records.proofs.OneForm.{same_record}
@@ -49,9 +49,9 @@ record_put start mid out hb ds r i n none e f g h amount few put =
     let fits : RecordFits (record_of r) = (amount, q.0, q.1) in
     record { fits = fits; bytes = q.2; in_form = λ m fault. no_fault_of i out (record_of r) fits q.2 fault; only = λ p same. same_record i p (record_of r) (sym same ∙ q.2) }
 
-pub beyond_put : (r : code.Record) (ds : List Doing) → ds ≡ vec_items r.doings → r.amount ≤ 1000000 → length ds ≤ 500 → (b : told.Beyond) → IsDoing b (FirstBeyond ds) → IsBeyond (record_of r) b
+pub beyond_put : (r : code.Record) (ds : List Doing) → ds ≡ vec_items r.doings → r.amount ≤ 1000000 → length ds ≤ 500 → (b : told.Beyond) → AtDoing b (FirstBeyond ds) → IsBeyond (record_of r) b
 beyond_put r ds h amount few variant.Head is = absurd is
 beyond_put r ds h amount few (variant.Doing m) beyond =
     let P : List Doing → Type 0 = λ xs. (length xs ≤ 500) × FirstBeyond xs m in
     let q = subst P h (few, beyond) in
-    Beyond.doing amount q.0 q.1
+    (omega (arith, beyond.number), Beyond.doing amount q.0 q.1)

@@ -30,10 +30,10 @@ pub record Form (i : ℕ) (r : Record) (file : List ℕ) : Type 0 where
   pub only : (q : Record) → file ≡ record_bytes i q → q ≡ r
 
 -- what is told of it: which doing, or what stands before
-abbrev pub IsDoing : beyond.Beyond → (ℕ → Type 0) → Type 0
-IsDoing (told.Doing m) P = P m
-IsDoing told.Head P = ⊥
+abbrev pub AtDoing : beyond.Beyond → (ℕ → Type 0) → Type 0
+AtDoing (told.Doing m) P = P m
+AtDoing told.Head P = ⊥
 
 abbrev pub IsBeyond : Record → beyond.Beyond → Type 0
 IsBeyond r told.Head = Beyond r 0
-IsBeyond r (told.Doing m) = Beyond r m
+IsBeyond r (told.Doing m) = (1 ≤ m) × Beyond r m

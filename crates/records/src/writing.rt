@@ -2,7 +2,7 @@
 ghost use Rattle.std.specs.Prelude.{◌≡◌, ◌↔◌, ◌≤◌, IsTrue, length, IfOk, OnOk, ◌++◌};
 ghost use Rattle.records.specs.Record.{record_of, DoingFits, DoingsFit, kind_code, letter_in, head_bytes, doing_bytes, doings_bytes};
 ghost use Rattle.records.specs.Failure.{IfRefused};
-ghost use Rattle.records.specs.Writing.{FirstBeyond, Form, IsBeyond, IsDoing};
+ghost use Rattle.records.specs.Writing.{AtDoing, FirstBeyond, Form, IsBeyond};
 
 use crate::bytes::Bytes;
 use crate::doing::{Doing, Kind};
@@ -102,7 +102,7 @@ impl Head {
 fn write_doings(doings: &[Doing], out: &mut Vec<u8>) -> Result<(), Failure<Beyond>>
     requires few { length doings.now ≤ 500 }
     ensures ok { OnOk result (DoingsFit doings.now × (out.new.items ≡ out.old.items ++ doings_bytes doings.now)) }
-    ensures refused { IfRefused result (λ beyond. IsDoing beyond (FirstBeyond doings.now)) }
+    ensures refused { IfRefused result (λ beyond. AtDoing beyond (FirstBeyond doings.now)) }
 {
     for (before, doing) in doings.iter().enumerate() {
         if !doing.fits() {
