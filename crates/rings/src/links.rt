@@ -9,7 +9,7 @@ pub(crate) struct Link {
     pub(crate) letter: Option<usize>,
 }
 
-// What leads to each number.
+// What leads to each number. By number and in no boxes: links go round in rings, and a search looks its table up by them.
 #[derive(Drop)]
 pub(crate) struct Links {
     pub(crate) of: Vec<Link>,
