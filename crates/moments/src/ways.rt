@@ -44,23 +44,17 @@ impl<'a> Reached<'a> {
         }
     }
 
-    // A machine's next doing on the way to a later moment, if it has one.
-    fn step_toward(&self, to: Counts, machine: usize) -> Option<Step<'a>>
-        requires { machine < self.now.run.now.count }
-        ensures { MatchOption result (Stays self.now (counts_of to) machine) (Steps self.now (counts_of to)) }
-    {
-        if self.cut.of[machine] < to.of[machine] {
-            self.go_on(machine).map(|after| Step { machine, after })
-        } else {
-            None
-        }
-    }
-
     // The next doing of some machine on the way to a later moment.
     fn go_toward(&self, to: Counts) -> Option<Step<'a>>
         ensures { MatchOption result ((k : ℕ) → k < self.now.run.now.count → Stays self.now (counts_of to) k) (Steps self.now (counts_of to)) }
     {
-        (0..self.run.count).find_map(|machine| self.step_toward(to, machine))
+        (0..self.run.count).find_map(|machine| {
+            if self.cut.of[machine] < to.of[machine] {
+                self.go_on(machine).map(|after| Step { machine, after })
+            } else {
+                None
+            }
+        })
     }
 }
 
