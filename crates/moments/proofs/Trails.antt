@@ -143,7 +143,7 @@ one_left {j} left lt next = record { moment = next; leads = λ way. (trail_parts
 pub none_left : {r : Run} {js : List ℕ} {c : Cut} → Left r js [] c → (Way r nothing (cuts_along nothing js) → Alike r c r.did) × (Alike r c r.did → Way r nothing (cuts_along nothing js))
 none_left left = (λ way. trail_end (left.leads way), λ same. left.way (here left.moment same))
 
--- a moment of one run is one of the other, if they are the same
+-- a moment of a run is one of the same run by another name, and so is the one after it
 pub moment_same : {r s : code.Run} {c : Cut} → r ≡ s → Moment (run_of r) c → Moment (run_of s) c
 moment_same {c = c} same moment = subst (λ (x : code.Run). Moment (run_of x) c) same moment
 
