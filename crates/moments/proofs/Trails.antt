@@ -6,10 +6,13 @@ use Rattle.std.proofs.lemmas.Bool.{eq-eqb, ne_eqb, cond-true, cond-false, cases_
 use Rattle.runs.specs.declared.counts.Counts.{Counts}
 use Rattle.runs.specs.Run.{Run, Done}
 use Rattle.runs.specs.Moment.{Cut, Moment}
-use Rattle.runs.specs.Model.{counts_of}
+use Rattle.runs.specs.declared.run.Run as code
+use Rattle.runs.specs.Model.{run_of, counts_of}
 use Rattle.runs.proofs.Places.{set_here, set_rest}
 use Rattle.order.specs.Turns.{turns_of}
+use Rattle.moments.specs.declared.reached.Reached.{Reached}
 use Rattle.moments.specs.Cuts.{Alike, Below, nothing}
+use Rattle.moments.specs.Onward.{After}
 use Rattle.moments.specs.Ways.{Next, Path, there, step, Way, go_on, cuts_along, Leads}
 use Rattle.moments.proofs.Laws.{moment_alike, moment_first}
 use Rattle.moments.proofs.GoingOn.{on_cases, on_next}
@@ -140,10 +143,17 @@ one_left {j} left lt next = record { moment = next; leads = λ way. (trail_parts
 pub none_left : {r : Run} {js : List ℕ} {c : Cut} → Left r js [] c → (Way r nothing (cuts_along nothing js) → Alike r c r.did) × (Alike r c r.did → Way r nothing (cuts_along nothing js))
 none_left left = (λ way. trail_end (left.leads way), λ same. left.way (here left.moment same))
 
--- so far the list leads from one moment to another, no further than to a third
-pub record Led (r : Run) (from to c : Cut) (before now : List ℕ) : Type 0 where
-  pub moment : Moment r c
-  pub below : Below r c to
+-- a moment of a run is one of the same run by another name, and so is the one after it
+pub moment_same : {r s : code.Run} {c : Cut} → r ≡ s → Moment (run_of r) c → Moment (run_of s) c
+moment_same {c = c} same moment = subst (λ (x : code.Run). Moment (run_of x) c) same moment
+
+pub moment_after : {m n : Reached} {r : code.Run} {who : ℕ} → m.run.now ≡ r → After m who n → Moment (run_of r) (go_on (counts_of m.cut) who)
+moment_after {n} {r} same after = subst (Moment (run_of r)) after.cut (moment_same (after.run ∙ same) n.moment)
+
+-- so far the list leads from one cut to a moment of the run, no further than to another cut
+pub record Led (r : code.Run) (from to : Cut) (m : Reached) (before now : List ℕ) : Type 0 where
+  pub run : m.run.now ≡ r
+  pub below : Below (run_of r) (counts_of m.cut) to
   pub turns : List ℕ
   pub added : now ≡ before ++ turns
-  pub trail : Trail r c from turns
+  pub trail : Trail (run_of r) (counts_of m.cut) from turns

@@ -1,5 +1,6 @@
 pub mod Cuts
 pub mod Ways
+pub mod Onward
 pub mod Vectors
 pub mod Signs
 pub mod Amounts

@@ -31,15 +31,6 @@ abbrev pub cuts_along : Cut → List ℕ → List Cut
 cuts_along c [] = c ∷ []
 cuts_along c (who ∷ rest) = c ∷ cuts_along (go_on c who) rest
 
--- a machine has no next doing on the way from c to d, and e is the moment after its next doing there
-abbrev pub Stays : Run → Cut → Cut → ℕ → Type 0
-Stays r c d who = c who < d who → Moment r (go_on c who) → ⊥
-
-pub record Steps (r : Run) (c d : Cut) (who : ℕ) (e : Cut) : Type 0 where
-  pub ahead : c who < d who
-  pub after : e ≡ go_on c who
-  pub moment : Moment r e
-
 -- the machines lead from c to d: by moments, and each doing between the two has its turn once
 pub record Leads (r : Run) (c d : Cut) (js : List ℕ) : Type 0 where
   pub path : Path r d c (cuts_along c js)

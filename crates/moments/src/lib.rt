@@ -2,5 +2,6 @@
 #![tactic(auto)]
 
 pub mod moment;
+pub(crate) mod reached;
 pub mod vector;
 pub mod ways;

@@ -4,57 +4,58 @@ ghost use Rattle.runs.specs.Run.{Sound};
 ghost use Rattle.runs.specs.Moment.{Moment};
 ghost use Rattle.runs.specs.Model.{run_of, counts_of};
 ghost use Rattle.moments.specs.Cuts.{Alike, Below, nothing};
-ghost use Rattle.moments.specs.Ways.{go_on, cuts_along, Way, Stays, Steps, Leads, Toward, GoesOn, OnAWay};
+ghost use Rattle.moments.specs.Onward.{After, Stays, Steps};
+ghost use Rattle.moments.specs.Ways.{go_on, cuts_along, Way, Leads, Toward, GoesOn, OnAWay};
 
 use crate::moment::is_ready;
+use crate::reached::{Reached, Step};
 use runs::counts::Counts;
 use runs::run::Run;
 use std::alloc::AllocError;
 
-// A doing of a machine, and the moment after it.
-#[derive(Clone, Copy)]
-pub(crate) struct Step {
-    machine: usize,
-    after: Counts,
-}
-
-// Is all behind a cut.
-fn is_end(run: &Run, cut: Counts) -> bool
-    ensures { IsTrue result ↔ Alike (run_of run.now) (counts_of cut) (counts_of run.now.did) }
-{
-    cut.of[..run.count] == run.did.of[..run.count]
-}
-
-// The moment after a machine's next doing, if there is one.
-fn go_on(run: &Run, cut: Counts, machine: usize) -> Option<Counts>
-    requires moment { Moment (run_of run.now) (counts_of cut) }
-    requires inside { machine < run.now.count }
-    ensures { MatchOption result (Moment (run_of run.now) (go_on (counts_of cut) machine) → ⊥) (λ next. (counts_of next ≡ go_on (counts_of cut) machine) × Moment (run_of run.now) (counts_of next)) }
-{
-    let doing = run.next(machine, cut.of[machine])?;
-    let next = cut.with(machine, doing);
-    is_ready(run, next, machine, doing).then_some(next)
-}
-
-// A machine's next doing on the way to a later moment, if it has one.
-fn step_toward(run: &Run, cut: Counts, to: Counts, machine: usize) -> Option<Step>
-    requires moment { Moment (run_of run.now) (counts_of cut) }
-    requires inside { machine < run.now.count }
-    ensures { MatchOption result (Stays (run_of run.now) (counts_of cut) (counts_of to) machine) (λ step. (step.machine ≡ machine) × Steps (run_of run.now) (counts_of cut) (counts_of to) machine (counts_of step.after)) }
-{
-    if cut.of[machine] < to.of[machine] {
-        go_on(run, cut, machine).map(|after| Step { machine, after })
-    } else {
-        None
+impl<'a> Reached<'a> {
+    // The moment at a cut that is one.
+    fn at(run: &'a Run, cut: Counts) -> Reached<'a>
+        requires { Moment (run_of run.now) (counts_of cut) }
+        ensures run { result.run.now ≡ run.now }
+        ensures cut { result.cut ≡ cut }
+    {
+        Reached { run, cut }
     }
-}
 
-// The next doing of some machine on the way to a later moment.
-fn go_toward(run: &Run, cut: Counts, to: Counts) -> Option<Step>
-    requires moment { Moment (run_of run.now) (counts_of cut) }
-    ensures { MatchOption result ((k : ℕ) → k < run.now.count → Stays (run_of run.now) (counts_of cut) (counts_of to) k) (λ step. (step.machine < run.now.count) × Steps (run_of run.now) (counts_of cut) (counts_of to) step.machine (counts_of step.after)) }
-{
-    (0..run.count).find_map(|machine| step_toward(run, cut, to, machine))
+    // Is all behind it.
+    fn is_end(&self) -> bool
+        ensures { IsTrue result ↔ Alike (run_of self.now.run.now) (counts_of self.now.cut) (counts_of self.now.run.now.did) }
+    {
+        self.cut.of[..self.run.count] == self.run.did.of[..self.run.count]
+    }
+
+    // The moment after a machine's next doing, if there is one.
+    fn go_on(&self, machine: usize) -> Option<Reached<'a>>
+        requires { machine < self.now.run.now.count }
+        ensures { MatchOption result (Moment (run_of self.now.run.now) (go_on (counts_of self.now.cut) machine) → ⊥) (After self.now machine) }
+    {
+        let doing = self.run.next(machine, self.cut.of[machine])?;
+        let cut = self.cut.with(machine, doing);
+        if is_ready(self.run, cut, machine, doing) {
+            Some(Reached { run: self.run, cut })
+        } else {
+            None
+        }
+    }
+
+    // The next doing of some machine on the way to a later moment.
+    fn go_toward(&self, to: Counts) -> Option<Step<'a>>
+        ensures { MatchOption result ((k : ℕ) → k < self.now.run.now.count → Stays self.now (counts_of to) k) (Steps self.now (counts_of to)) }
+    {
+        (0..self.run.count).find_map(|machine| {
+            if self.cut.of[machine] < to.of[machine] {
+                self.go_on(machine).map(|after| Step { machine, after })
+            } else {
+                None
+            }
+        })
+    }
 }
 
 // Puts the machine of each next doing behind what is there, from one moment to a later one.
@@ -68,10 +69,10 @@ pub fn lead(run: &Run, from: Counts, to: Counts, turns: &mut Vec<u8>) -> Result<
     ensures onward { GoesOn }
     ensures way { OnAWay }
 {
-    let mut cut = from;
-    while let Some(step) = go_toward(run, cut, to) {
+    let mut moment = Reached::at(run, from);
+    while let Some(step) = moment.go_toward(to) {
         turns.push(step.machine as u8)?;
-        cut = step.after;
+        moment = step.after;
     }
     Ok(())
 }
@@ -80,16 +81,16 @@ pub fn lead(run: &Run, from: Counts, to: Counts, turns: &mut Vec<u8>) -> Result<
 pub fn is_way(run: &Run, turns: &[u8]) -> bool
     ensures { IsTrue result ↔ Way (run_of run.now) nothing (cuts_along nothing turns.now) }
 {
-    let mut cut = Counts::none();
+    let mut moment = Reached::at(run, Counts::none());
     for turn in turns {
         let machine = *turn as usize;
         if run.count <= machine {
             return false;
         }
-        let Some(next) = go_on(run, cut, machine) else {
+        let Some(next) = moment.go_on(machine) else {
             return false;
         };
-        cut = next;
+        moment = next;
     }
-    is_end(run, cut)
+    moment.is_end()
 }
