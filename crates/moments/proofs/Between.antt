@@ -35,20 +35,6 @@ module _ {S F : Type 0} {steps : S → Option ℕ → S → Type 0} (p : Run ste
         let x = both (p.at no.0) (λ y. Called g f (y, tt) false f) _ no.2 (counts.2 no.0) in
         (λ e. absurd (both_ways false refl e), λ all. ((told x.0 false f x.1).1 (omega (arith, x.2.0)) x.2.1).1 (all x.0 (omega (arith, x.2.0)) x.2.1))
 
-  -- a search of each, which finds none where N, and else what has R
-  module _ {B : Type 0} {g : Mut F (ℕ × Unit {0}) (Option B)} (N : ℕ → Type 0) (R : ℕ → B → Type 0)
-      (told : (x : ℕ) (o : Option B) (q : F) → Called g f (x, tt) o q → (q ≡ f) × (a ≤ x → x < b → MatchOption o (N x) (R x))) where
-    find_between : (o : Option B) → MatchOption o (IsTrue p.whole × AllItemsGive p g f None) (λ y. (i : ℕ) × (i < p.len) × (p.len ≡ i + 1) × IsFirstToGive p g f (Some y) None i)
-        → MatchOption o ((x : ℕ) → a ≤ x → x < b → N x) (λ y. (x : ℕ) × (a ≤ x) × (x < b) × R x y)
-    find_between None ends = λ x low high.
-        let none = ends.1 (λ x r q k. (told x.0 r q k).0) in
-        (told x None f (at (p.at (x - a)) x (λ y. Called g f (y, tt) None f) (place ends.0 x low high) (none (x - a)))).1 low high
-    find_between (Some y) ends =
-        let first = ends.3 (λ x r q k. (told x.0 r q k).0) in
-        let x = both (p.at ends.0) (λ z. Called g f (z, tt) (Some y) f) _ first.0 (counts.2 ends.0) in
-        let low : a ≤ x.0 = omega (arith, x.2.0) in
-        (x.0, low, x.2.1, (told x.0 (Some y) f x.1).1 low x.2.1)
-
 -- from a up to what is less than b, and up to b itself
 pub all_below : {F : Type 0} {g : Mut F (ℕ × Unit {0}) Bool} {s : Range ℕ} {f : F} (r : Bool) (P : ℕ → Type 0)
     → SomeRun nat_range_steps s (λ p. MatchBool r (IsTrue p.whole × AllItemsGive p g f true) (AnyItemGives p g f false))
@@ -68,10 +54,3 @@ all_upto {s} {f} a b start end fresh r P run told =
     let last : h.1 ≡ b + 1 = h.3 ∙ ap (λ (z : RangeInclusive ℕ). range_inclusive_end z + 1) run.1 ∙ ap (λ (n : ℕ). n + 1) end in
     let counts = (h.4 (ap range_inclusive_exhausted run.1 ∙ fresh)).0 in
     all_between p a (b + 1) (subst (λ n. ItemsCountUp p a n) last (subst (λ n. ItemsCountUp p n h.1) first counts)) f P told r run.2
-
-pub find_below : {F B : Type 0} {g : Mut F (ℕ × Unit {0}) (Option B)} {s : Range ℕ} {f : F} (o : Option B) (N : ℕ → Type 0) (R : ℕ → B → Type 0)
-    → SomeRun nat_range_steps s (λ p. MatchOption o (IsTrue p.whole × AllItemsGive p g f None) (λ y. (i : ℕ) × (i < p.len) × (p.len ≡ i + 1) × IsFirstToGive p g f (Some y) None i))
-    → ((x : ℕ) (t : Option B) (q : F) → Called g f (x, tt) t q → (q ≡ f) × (s.start ≤ x → x < s.end → MatchOption t (N x) (R x)))
-    → MatchOption o ((x : ℕ) → s.start ≤ x → x < s.end → N x) (λ y. (x : ℕ) × (s.start ≤ x) × (x < s.end) × R x y)
-find_below {s} {f} o N R run told =
-    find_between run.0 s.start s.end (subst (λ (z : Range ℕ). ItemsCountUp run.0 z.start z.end) run.1 (range_runs run.0 run.0.seen)) f N R told o run.2

@@ -210,9 +210,3 @@ done_all {r} {sending} {v} {c} linked some ordered end =
     own_is j n j< one n≤ =
         let w = row j n j< n≤ in
         ⊎_elim (λ same. same.1) (λ b. absurd (⊎_elim (λ lt. none j n (through j (v j n j) (own lt one (w.moment.inside j j<)) b)) (λ ge. let e : v j n j ≡ n = omega (arith, w.own) in none j n (let P : ℕ → Type 0 = λ x. Before r j x j n in subst P e b)) (cases_lt n (v j n j)))) (w.reached j j< (omega (arith, w.own)))
-
--- what is got was sent by one of the machines, as one of its doings
-pub sent_range : {r : Run} {sending : Sending} → Linked r sending → (p : Place) (j m : ℕ) → j < r.count → 1 ≤ m → m ≤ r.did j → Some p ≡ sending j m → (p.machine < r.count) × (p.doing ≤ r.did p.machine)
-sent_range linked p j m j< one m≤ is =
-    let parts = linked.range _ (linked.sent p j m j< one m≤ (sym is)) in
-    (parts.0, parts.3)

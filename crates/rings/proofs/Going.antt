@@ -27,18 +27,6 @@ module _ (links : List Link) (table : List ℕ) (s v k : ℕ) where
       (i, refl, record { from = a; step = c.0; here = c.1; least = λ u h j f. elim (le_or_lt i u) [ inl le ↦ le | inr lt ↦ absurd (d u h lt j f) ] })
 
 module _ (links : List Link) (table : List ℕ) (s top : ℕ) (m : Measured links s top table) where
-  pub going_start : (steps : ℕ) → s < length links → far table top s ≡ steps → steps < top → Going links table s top s steps []
-  going_start steps inside e lt =
-      record {
-        inside = inside;
-        from = omega arith;
-        here = e;
-        low = lt;
-        one = omega (arith, e, m.exact.some s (omega arith));
-        toward = toward_start (In links) s (far table top) (steps - 1);
-        long = omega (arith, e);
-      }
-
   module _ (v k : ℕ) (xs : List ℕ) (g : Going links table s top v k xs) where
     pub going_some : 1 < k → SomeNext links table s v (k - 1)
     going_some h =

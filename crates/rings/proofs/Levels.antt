@@ -152,12 +152,3 @@ module _ (links : List Link) (s top k : ℕ) (d : ℕ → ℕ) (c : k + 1 < top)
         | inr g ↦ g
         | inl g ↦ absurd (omega (arith, c, (fr.right (get_or cur j 0) (mem_at cur j h)).1, far_none table top (get_or cur j 0) (get_or-eq_default table 0 g)))
       ]
-
--- before the first of the frontier
-pub level_begin : (links : List Link) (s top k : ℕ) (table : List ℕ) (cur : List ℕ) → k + 1 < top → Leveled links s top k table cur → Halfway links s top k (far table top) (Among cur 0) table []
-level_begin links s top k table cur c x =
-    record {
-      raising = raising_said (In links) s top k (far table top) c x.level (λ w. ⊥) (Among cur 0) (far table top) [] (raising_none (In links) s top k (far table top) c x.level) (λ u m. omega (arith, m.1));
-      long = x.long;
-      below = x.below;
-    }

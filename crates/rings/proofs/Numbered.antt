@@ -46,10 +46,6 @@ in_at did (suc n) i k lt one le =
     (omega (arith, h.0, length-append A B), get_or_append_left A B (at 0 0) (length (places_in did i) + k - 1) h.0 ∙ h.1))
     (cases_eq i n)
 
--- the loop
-pub numbered_none : (r : code.Run) (places : List Place) (begins : Counts) → places ≡ [] → NumberedTo r 0 places begins
-numbered_none r places begins e = record { items = e; begin = λ k lt. absurd (omega arith) }
-
 pub numbered_more : (r : code.Run) (i size : ℕ) (places places' : List Place) (begins begins' : Counts) → NumberedTo r i places begins → i < 40 → begins'.of ≡ set begins.of i size → size ≡ length places → places' ≡ places ++ places_of i (counts_of r.did i) → NumberedTo r (i + 1) places' begins'
 numbered_more r i size places places' begins begins' h few is size_is more =
     let did = counts_of r.did in

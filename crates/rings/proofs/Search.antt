@@ -90,9 +90,6 @@ module _ (E : ℕ → ℕ → Type 0) where
   pub exact_walk : (s top : ℕ) (d : ℕ → ℕ) → Exact E s top d → (k v : ℕ) → s ≤ v → d v ≡ 1 + k → d v < top → (qs : List ℕ) × From s qs × Walk E v qs s × (length qs ≡ k)
   exact_walk s top d x = attained_walk s top d x.some x.attained
 
-  pub best_none : (l : ℕ) → Best E 0 0 l
-  best_none l = record { before = omega arith; least = λ u h. absurd (omega arith); first = λ u h k. absurd (omega arith) }
-
   -- start t has no ring of fewer: passed over
   pub best_pass : (t s l : ℕ) → Best E t s l → AtLeast E t l → Best E (t + 1) s l
   best_pass t s l b a =

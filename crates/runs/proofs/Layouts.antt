@@ -9,11 +9,6 @@ use Rattle.runs.specs.declared.state.State.{State}
 use Rattle.runs.specs.Shape.{still}
 use Rattle.runs.specs.Making.{state_after, states_after, states_of, all_states, Laid, heard, got_index, linked}
 
-pub after_more : (start ss ss' : List State) (ds : List Doing) (k : ℕ) (d : Doing) (s : State) → k < length ds → ss ≡ start ++ states_after (take k ds) → ss' ≡ ss ++ (s ∷ []) → s ≡ state_after (get_or ds k d) → ss' ≡ start ++ states_after (take (k + 1) ds)
-after_more start ss ss' ds k d s lt e f g =
-    f ∙ ap (λ (x : List State). x ++ (s ∷ [])) e ∙ append_assoc start (states_after (take k ds)) (s ∷ [])
-    ∙ ap (λ (x : List State). start ++ x) (ap (λ (x : State). states_after (take k ds) ++ (x ∷ [])) g ∙ sym (map_more state_after ds k d lt))
-
 -- one letter more
 linked_push : (starts : Counts) (ls : List Letter) (l : Letter) (ss : List State) → linked starts (ls ++ (l ∷ [])) ss ≡ set (linked starts ls ss) (got_index starts l) (heard l (get_or (linked starts ls ss) (got_index starts l) still))
 linked_push starts [] l ss = refl
@@ -29,17 +24,10 @@ pub linked_long : (starts : Counts) (ls : List Letter) (ss : List State) → len
 linked_long starts [] ss = refl
 linked_long starts (l ∷ ls) ss = linked_long starts ls _ ∙ length-set ss (got_index starts l) (heard l (get_or ss (got_index starts l) still))
 
-pub states_put : (start mid out : List State) (s : State) (ds xs : List Doing) → mid ≡ start ++ (s ∷ []) → out ≡ mid ++ states_after ds → ds ≡ xs → out ≡ start ++ (s ∷ states_after xs)
-states_put start mid out s ds xs e f g =
-    f ∙ ap (λ (x : List State). x ++ states_after ds) e ∙ append_assoc start (s ∷ []) (states_after ds) ∙ ap (λ (x : List Doing). start ++ (s ∷ states_after x)) g
-
 -- one machine more
 all_push : (rs : List Record) (r : Record) → all_states (rs ++ (r ∷ [])) ≡ all_states rs ++ states_of r
 all_push [] r = append-nil (states_of r)
 all_push (x ∷ xs) r = ap (λ (y : List State). states_of x ++ y) (all_push xs r) ∙ sym (append_assoc (states_of x) (all_states xs) (states_of r))
-
-pub laid_none : (rs : List Record) (did : Counts) (starts : Counts) (ss : List State) → ((k : ℕ) → get_or did.of k 0 ≡ 0) → ss ≡ [] → Laid rs 0 did starts ss
-laid_none rs did starts ss none e = record { doings = λ k lt. absurd (omega arith); none = λ k le. none k; begins = λ k lt. absurd (omega arith); items = e }
 
 pub laid_more : (rs : List Record) (i n size : ℕ) (did did' starts starts' : Counts) (ss ss' : List State) → Laid rs i did starts ss → i < length rs → i < 40
     → did'.of ≡ set did.of i n → n ≡ did_of rs i → starts'.of ≡ set starts.of i size → size ≡ length ss → ss' ≡ ss ++ states_of (machine_of rs i) → Laid rs (i + 1) did' starts' ss'

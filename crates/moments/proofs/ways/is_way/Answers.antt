@@ -28,9 +28,6 @@ never none = (λ e. absurd (both_ways false refl e), λ way. absurd (none way))
 pub returns-then-run-machine : goal.returns-then-run-machine
 returns-then-run-machine c = never (λ way. omega (arith, c.if-run-machine.true, (goes (turn_left _ c.loop-turn-test.true c.loop-turn.invariant.left) way).0))
 
-pub go_on-requires : goal.go_on-requires
-go_on-requires c = omega (arith, ap (λ (r : code.Run). r.count) c.loop-turn.invariant.run, c.if-run-machine.false)
-
 pub returns-in_default : goal.returns-in_default
 returns-in_default c =
     let inv = c.loop-turn.invariant in

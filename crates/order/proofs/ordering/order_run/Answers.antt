@@ -1,32 +1,18 @@
-use Rattle.std.proofs.Common.{◌≡◌, ℕ, ◌*◌, ◌<◌, List, length, get_or, replicate, sym, refl, ap, ◌∙◌, subst, arith}
+use Rattle.std.proofs.Common.{◌≡◌, ℕ, ◌*◌, ◌<◌, List, length, sym, refl, ap, ◌∙◌, subst, arith}
 use Rattle.std.specs.Vec.{with_items}
-use Rattle.std.proofs.lemmas.List.{with_items_is, get_or-replicate, length-replicate}
+use Rattle.std.proofs.lemmas.List.{with_items_is}
 use Rattle.letters.specs.declared.letter.Letter.{Letter}
 use Rattle.runs.specs.declared.counts.Counts.{Counts}
 use Rattle.runs.specs.Run.{Sound}
 use Rattle.runs.specs.Model.{run_of, sending_of, counts_of}
-use Rattle.runs.specs.Shape.{index}
 use Rattle.runs.proofs.Linked.{linked, in_same}
 use Rattle.order.specs.Vectors.{VectorsOf}
-use Rattle.order.specs.Rows.{vectors_in, none}
+use Rattle.order.specs.Rows.{vectors_in}
 use Rattle.order.proofs.OneMore.{done_all}
 use Rattle.order.proofs.Rightly.{some_ring, ring_of}
 use Rattle.order.proofs.Stuck.{ring}
 use Rattle.order.proofs.ordering.order_run.Goals as goal
 use Rattle.order.proofs.ordering.order_run.Goals.{In-None}
-
-pub fill-requires : goal.fill-requires
-fill-requires c =
-    let run = c.args.run in
-    let items : c.deref_mut.result.now ≡ replicate c.len.result c.none.result = c.deref_mut.ensures.value ∙ c.in_ok-rows.ensures.items_if_clones_equal (λ y h. h) in
-    record {
-      empty = c.new-turns.ensures.items;
-      long = ap length items ∙ length-replicate c.len.result c.none.result ∙ c.len.ensures;
-      blank = λ j i j<.
-          let p = index run.starts j 0 in
-          let p< : p < c.len.result = omega (arith, run.inside j j<, c.len.ensures) in
-          ap (λ (rows : List Counts). counts_of (get_or rows p none) i) items ∙ ap (λ (w : Counts). counts_of w i) (get_or-replicate c.len.result p c.none.result none p<) ∙ c.none.ensures i;
-    }
 
 pub unwrap-requires : goal.unwrap-requires
 unwrap-requires c =

@@ -1,7 +1,7 @@
 use Rattle.std.proofs.Common.{refl, vec_items, arith}
 use Rattle.records.specs.Reading.{Begin, NoDoingAt}
 use Rattle.records.proofs.HandedOn.{handed_on, form_weaker}
-use Rattle.records.proofs.OneFile.{no_head, behind, doing_fault, too_long, whole}
+use Rattle.records.proofs.OneFile.{no_head, behind, doing_fault, too_long}
 use Rattle.records.proofs.reading.read_record.Goals as goal
 
 pub returns-in_default-clause-refused : goal.returns-in_default-clause-refused
@@ -20,8 +20,3 @@ returns-then-bytes-head-clause-refused c =
     let all = behind (λ xs. Begin xs (vec_items c.in_ok-doings.doings)) c.args.bytes.now c.in_ok-doings.ensures.ok.1 in
     rw c.at_fault-then-bytes-head.ensures
     (refl, too_long c.args.machine c.args.bytes.now c.in-Some.head (vec_items c.in_ok-doings.doings) c.in-Some.ensures (omega (arith, c.in_ok-doings.doings.ok.0, c.in_ok-doings.ensures.ok.0)) all (omega arith))
-
-pub returns-clause-ok : goal.returns-clause-ok
-returns-clause-ok c =
-    let all = behind (λ xs. Begin xs (vec_items c.in_ok-doings.doings)) c.args.bytes.now c.in_ok-doings.ensures.ok.1 in
-    whole c.args.machine c.args.bytes.now c.in-Some.head (vec_items c.in_ok-doings.doings) c.in-Some.ensures (omega (arith, c.in_ok-doings.doings.ok.0, c.in_ok-doings.ensures.ok.0)) all (omega arith)

@@ -3,7 +3,7 @@ use Rattle.runs.specs.Moment.{Cut}
 use Rattle.runs.specs.Model.{run_of, counts_of}
 use Rattle.exhaustive.specs.Counter.{cuts_of}
 use Rattle.exhaustive.proofs.Ranks.{numbering, rank_within, last_rank, after_inside, after_rank}
-use Rattle.exhaustive.proofs.Counted.{carried, carried_here, carried_below, carried_above, rest}
+use Rattle.exhaustive.proofs.Counted.{carried, carried_here, carried_below, carried_above}
 use Rattle.exhaustive.proofs.cut.Cut.following.Goals as goal
 
 pub returns-in_err-machine-clause-after : goal.returns-in_err-machine-clause-after
@@ -18,14 +18,6 @@ returns-in_err-machine-clause-numbering c = numbering (run_of c.args.self.now.ru
 
 pub returns-clause-numbering : goal.returns-clause-numbering
 returns-clause-numbering c = numbering (run_of c.args.self.now.run.now)
-
-pub overflow_add-of : goal.overflow_add-of
-overflow_add-of c =
-    let self = c.args.self.now in
-    let i = c.in_ok-machine.machine in
-    let low = c.in_ok-machine.ensures in
-    let within : i < length self.counts.of = omega (arith, low.inside, self.counts.wide, self.run.now.most) in
-    record { fits = omega (arith, rest self.counts.of c.fill.new.self i within (c.fill.ensures.after (λ y e. e)) i (omega arith), low.left, self.run.now.few i low.inside) }
 
 pub overflow_add-result : goal.overflow_add-result
 overflow_add-result c =

@@ -1,4 +1,4 @@
-use Rattle.std.proofs.Common.{ℕ, ◌<◌, sym, refl, subst, arith}
+use Rattle.std.proofs.Common.{ℕ, ◌<◌, sym, subst, arith}
 use Rattle.std.proofs.lemmas.Bool.{both_ways}
 use Rattle.runs.specs.Moment.{Moment}
 use Rattle.runs.specs.Model.{run_of, sending_of, counts_of}
@@ -23,12 +23,6 @@ invariant_of-result c =
     record {
       moment = moment_next (linked run) self.moment j (counts_of next) (omega (arith, here, told.0)) (set_rest self.cut next j m few c.with-cut.ensures) (omega (arith, here, told.1)) (subst P (sym here) (c.is_ready.ensures.0 c.if-is_ready.true));
     }
-
-pub returns-then-is_ready : goal.returns-then-is_ready
-returns-then-is_ready c =
-    let self = c.args.self.now in
-    let j = c.args.machine in
-    record { run = refl; cut = with_on self.cut c.with-cut.result j c.in_ok-doing.doing (omega (arith, c.requires, self.run.now.most)) c.with-cut.ensures c.in_ok-doing.ensures.0 }
 
 pub returns-else-is_ready : goal.returns-else-is_ready
 returns-else-is_ready c moment =
