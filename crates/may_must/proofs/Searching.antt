@@ -12,7 +12,7 @@ use Rattle.moments.specs.Signs.{Says, AllSay}
 use Rattle.moments.specs.Amounts.{doings}
 use Rattle.moments.proofs.Laws.{lattice, moment_first, moment_alike}
 use Rattle.moments.proofs.Totals.{size_is}
-use Rattle.may_must.specs.declared.may.Search.{Search}
+use Rattle.order.specs.declared.progress.Progress.{Progress}
 use Rattle.may_must.specs.MaySearch.{Searched, begins, joins}
 
 -- the cut is a moment, no moment of all yes is below it anywhere, and so much was compared
@@ -25,7 +25,7 @@ pub record SoFar (r : Run) (s : Says) (v : Vectors) (c : Cut) (pairs : ℕ) : Ty
   pub each : pairs ≡ r.count * joins
 
 -- the machines below n say yes, and none has gone on since the loop over them began
-pub record Passed (r : Run) (s : Says) (v : Vectors) (begun now : Search) (n : ℕ) : Type 0 where
+pub record Passed (r : Run) (s : Says) (v : Vectors) (begun now : Progress) (n : ℕ) : Type 0 where
   pub same : now ≡ begun
   pub so_far : SoFar r s v (counts_of now.cut) now.pairs
   pub below : (k : ℕ) → k < n → s k (counts_of now.cut k) ≡ true

@@ -8,14 +8,8 @@ ghost use Rattle.may_must.specs.MaySearch.{Compared};
 
 use moments::vector::vector;
 use order::ordered::Ordered;
+use order::progress::Progress;
 use runs::counts::Counts;
-
-// How far the search has come, and how many pairs of counts it has compared.
-#[derive(Clone, Copy)]
-pub(crate) struct Search {
-    cut: Counts,
-    pairs: u64,
-}
 
 // The first moment of all yes, if there is one, and how many pairs of counts were compared for that.
 #[derive(Clone, Copy)]
@@ -24,23 +18,21 @@ pub struct Found {
     pub pairs: u64,
 }
 
-impl Search {
-    // A machine goes on to a doing, and all others by what comes before that.
-    fn join(self, ordered: &Ordered, machine: usize, doing: u16) -> Search
-        requires inside { machine < ordered.now.run.count }
-        requires some { 1 ≤ doing }
-        requires done { doing ≤ counts_of ordered.now.run.did machine }
-        requires room { self.pairs + 40 < 2 ^ 64 }
-        ensures cut { (k : ℕ) → k < ordered.now.run.count → counts_of result.cut k ≡ max (counts_of self.cut k) (vectors_of ordered.now machine doing k) }
-        ensures pairs { result.pairs ≡ self.pairs + ordered.now.run.count }
-    {
-        let (cut, pairs) = self
-            .cut
-            .joined(ordered.run.count, vector(ordered, machine, doing));
-        Search {
-            cut,
-            pairs: self.pairs + pairs,
-        }
+// A machine goes on to a doing, and all others by what comes before that.
+fn join(search: Progress, ordered: &Ordered, machine: usize, doing: u16) -> Progress
+    requires inside { machine < ordered.now.run.count }
+    requires some { 1 ≤ doing }
+    requires done { doing ≤ counts_of ordered.now.run.did machine }
+    requires room { search.pairs + 40 < 2 ^ 64 }
+    ensures cut { (k : ℕ) → k < ordered.now.run.count → counts_of result.cut k ≡ max (counts_of search.cut k) (vectors_of ordered.now machine doing k) }
+    ensures pairs { result.pairs ≡ search.pairs + ordered.now.run.count }
+{
+    let (cut, pairs) = search
+        .cut
+        .joined(ordered.run.count, vector(ordered, machine, doing));
+    Progress {
+        cut,
+        pairs: search.pairs + pairs,
     }
 }
 
@@ -53,7 +45,7 @@ pub fn first_moment(ordered: &Ordered) -> Found
     ensures compared { Compared (run_of ordered.now.run) (signs_of ordered.now.run) (vectors_of ordered.now) result.first result.pairs }
 {
     let run = &ordered.run;
-    let mut search = Search {
+    let mut search = Progress {
         cut: Counts::none(),
         pairs: 0,
     };
@@ -69,7 +61,7 @@ pub fn first_moment(ordered: &Ordered) -> Found
                     pairs: search.pairs,
                 };
             };
-            search = search.join(ordered, machine, next);
+            search = join(search, ordered, machine, next);
             continue 'anew;
         }
         return Found {

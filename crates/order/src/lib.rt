@@ -4,5 +4,5 @@
 pub mod asked;
 pub mod ordered;
 pub(crate) mod ordering;
-pub(crate) mod progress;
+pub mod progress;
 pub(crate) mod vectors;

@@ -1,7 +1,7 @@
-// How far an ordering has come.
+// How far an ordering, or a search, has come.
 use runs::counts::Counts;
 
-// The doings behind the cut are ordered, and so many pairs of counts were joined for that.
+// It has come to this cut, and so many pairs of counts were compared for that.
 #[derive(Clone, Copy)]
 pub struct Progress {
     pub cut: Counts,

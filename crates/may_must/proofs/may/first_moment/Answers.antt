@@ -3,7 +3,7 @@ use Rattle.runs.specs.Model.{run_of, signs_of, counts_of}
 use Rattle.order.specs.Ordering.{vectors_of}
 use Rattle.order.proofs.Sizes.{size}
 use Rattle.moments.proofs.Lowest.{rows_lowest}
-use Rattle.may_must.specs.declared.may.Search.{Search}
+use Rattle.order.specs.declared.progress.Progress.{Progress}
 use Rattle.may_must.proofs.Searching.{SoFar, begun, on, few_pairs, room}
 use Rattle.runs.proofs.Linked.{linked}
 use Rattle.may_must.proofs.may.first_moment.Goals as goal
@@ -31,7 +31,7 @@ gone c =
 pub anew-smaller : goal.anew-smaller
 anew-smaller c =
     let n = c.args.ordered.now.run.count in
-    omega (arith, ap (λ (s : Search). size n (counts_of s.cut)) c.loop-machine.invariant.same, (gone c).1, (gone c).2)
+    omega (arith, ap (λ (s : Progress). size n (counts_of s.cut)) c.loop-machine.invariant.same, (gone c).1, (gone c).2)
 
 pub anew-preserved : goal.anew-preserved
 anew-preserved c = (gone c).0
