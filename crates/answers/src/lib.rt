@@ -1,4 +1,4 @@
-// Questions, answers and replies: the bytes that say them, out and in, and their words.
+// Questions and answers: the bytes that say them, out and in, and their words.
 #![tactic(auto)]
 
 pub mod answer;

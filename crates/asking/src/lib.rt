@@ -1,4 +1,4 @@
-// From the files' bytes and a question to a reply: the main promise.
+// From the files' bytes and a question to an answer or a refusal: the main promise.
 #![tactic(auto)]
 
 pub mod asking;

@@ -25,12 +25,12 @@ fn question_of(named: Option<&str>, bytes: &[u8]) -> Option<Question> {
 }
 
 fn tell_verdict(rt: &HostRuntime, verdict: &Verdict, names: &[&str]) -> io::Result<ExitCode> {
-    let Some(number) = verdict.number() else {
-        println!(rt; "shown")?;
-        return Ok(ExitCode::SUCCESS);
-    };
-    println!(rt; "{number}")?;
+    match verdict.number() {
+        None => println!(rt; "shown")?,
+        Some(number) => println!(rt; "{number}")?,
+    }
     match verdict {
+        Verdict::Shown => return Ok(ExitCode::SUCCESS),
         Verdict::Refused(refusal) => {
             let why = Why { refusal, names };
             print!(rt; "{why}")?;
@@ -39,7 +39,6 @@ fn tell_verdict(rt: &HostRuntime, verdict: &Verdict, names: &[&str]) -> io::Resu
             "The file is no answer in form to that question on these records."
         )?,
         Verdict::NotShown => println!(rt; "The answer does not show what it says.")?,
-        Verdict::Shown => {}
     }
     Ok(ExitCode::FAILURE)
 }

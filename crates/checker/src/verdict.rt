@@ -1,5 +1,5 @@
-// Verdicts. The type is alone here, so that definitions of contracts can name it. It is no Result: that an answer does not show what it
-// says is no failure of the check.
+// Verdicts. The type is alone here, so that definitions of contracts can name it. It is no Result: that records are
+// refused, or that an answer does not show what it says, is what was asked, and no failure of the check.
 use records::refusal::Refusal;
 
 #[derive(Drop)]

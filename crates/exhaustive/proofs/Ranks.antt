@@ -5,7 +5,8 @@ use Rattle.std.proofs.lemmas.Bool.{cases_eq, cases_order}
 use Rattle.runs.specs.Run.{Run}
 use Rattle.runs.specs.Moment.{Cut}
 use Rattle.moments.specs.Cuts.{Below, nothing}
-use Rattle.exhaustive.specs.Counter.{weight, rank, cuts_of, rank_of, LowestLeft, Numbering}
+use Rattle.runs.specs.Moment.{LowestLeft}
+use Rattle.exhaustive.specs.Counter.{weight, rank, cuts_of, rank_of, Numbering}
 
 -- one more of what counts so much
 one_more : (n w : ℕ) → (n + 1) * w ≡ n * w + w

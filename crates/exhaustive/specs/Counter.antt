@@ -1,6 +1,6 @@
 -- All cuts of a run, numbered as by a counter whose lowest machine is the fastest (mixed radix).
 -- Assumes nothing.
-use Rattle.std.specs.Prelude.{◌≡◌, ℕ, zero, suc, ◌+◌, ◌*◌, ◌<◌, ◌≤◌}
+use Rattle.std.specs.Prelude.{◌≡◌, ℕ, zero, suc, ◌+◌, ◌*◌, ◌<◌}
 use Rattle.runs.specs.Run.{Run}
 use Rattle.runs.specs.Moment.{Cut}
 use Rattle.moments.specs.Cuts.{Alike, Below}
@@ -27,9 +27,3 @@ pub record Numbering (r : Run) : Type 0 where
   pub within : (c : Cut) → Below r c r.did → rank_of r c < cuts_of r
   pub once : (c d : Cut) → Below r c r.did → Below r d r.did → rank_of r c ≡ rank_of r d → Alike r c d
   pub later : (c d : Cut) → Next r c d → rank_of r c < rank_of r d
-
--- this machine has a doing left, and none below it has
-pub record LowestLeft (r : Run) (c : Cut) (i : ℕ) : Type 0 where
-  pub inside : i < r.count
-  pub left : c i < r.did i
-  pub ends : (k : ℕ) → k < i → r.did k ≤ c k

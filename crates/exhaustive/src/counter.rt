@@ -2,7 +2,8 @@
 ghost use Rattle.std.specs.Prelude.{◌≡◌, ◌+◌, ◌<◌, IsSomeAnd, MatchOption};
 ghost use Rattle.runs.specs.Model.{run_of, counts_of};
 ghost use Rattle.moments.specs.Cuts.{Below};
-ghost use Rattle.exhaustive.specs.Counter.{cuts_of, LowestLeft, Numbering};
+ghost use Rattle.runs.specs.Moment.{LowestLeft};
+ghost use Rattle.exhaustive.specs.Counter.{cuts_of, Numbering};
 
 use crate::cut::{Cut, Cuts, CutsFrom};
 use runs::counts::Counts;
@@ -49,19 +50,12 @@ impl<'a> Cuts<'a> {
 }
 
 impl<'a> Cut<'a> {
-    // The lowest machine that has a doing left.
-    fn lowest_left(&self) -> Option<usize>
-        ensures { MatchOption result (Below (run_of self.now.run.now) (counts_of self.now.run.now.did) (counts_of self.now.counts)) (LowestLeft (run_of self.now.run.now) (counts_of self.now.counts)) }
-    {
-        (0..self.run.count).find(|&machine| self.counts.of[machine] < self.run.did.of[machine])
-    }
-
     // The cut after this one: that machine goes on, and those below begin anew.
     fn following(&self) -> Option<Cut<'a>>
         ensures after { MatchOption result (self.now.number + 1 ≡ cuts_of (run_of self.now.run.now)) (λ next. (next.run.now ≡ self.now.run.now) × (next.number ≡ self.now.number + 1)) }
         ensures numbering { Numbering (run_of self.now.run.now) }
     {
-        let machine = self.lowest_left()?;
+        let machine = self.run.lowest_left(self.counts)?;
         let mut of = self.counts.of;
         of[..machine].fill(0);
         of[machine] += 1;

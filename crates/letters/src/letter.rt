@@ -1,6 +1,7 @@
 // Letters that were got.
 
-// A letter by machine and doing of its sending, and of its getting.
+// A letter by machine and doing of its sending, and of its getting. Four numbers and not two places: what is said of letters, of what
+// comes before what and of moments goes by machines, and each such word would be longer by one.
 #[derive(Clone, Copy)]
 pub struct Letter {
     pub from: u8,

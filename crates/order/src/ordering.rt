@@ -7,7 +7,7 @@ ghost use Rattle.rings.specs.Ring.{LowestRing};
 ghost use Rattle.order.specs.Ordering.{InOrder, ComesBeforeItself};
 
 use crate::ordered::Ordered;
-use crate::vectors::{behind, fill};
+use crate::vectors::fill;
 use records::failure::Failure;
 use records::refusal::Refusal;
 use rings::ring::lowest_ring;
@@ -23,7 +23,7 @@ pub(crate) fn order_run(heap: Global, run: Run) -> Result<Ordered, Failure<Refus
     let mut rows = vec![in heap; Counts::none(); run.states.len()]?;
     let mut turns = Vec::new(heap);
     let progress = fill(&run, &mut rows, &mut turns)?;
-    match behind(&run, progress.cut) {
+    match run.lowest_left(progress.cut) {
         Some(_) => {
             let ring = lowest_ring(heap, &run)?;
             Err(Failure::Refused(Refusal::Ring(ring.unwrap())))

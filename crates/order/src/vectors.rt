@@ -9,7 +9,8 @@ use runs::counts::Counts;
 use runs::run::Run;
 use std::alloc::AllocError;
 
-// The row of a machine after so many doings.
+// The row of a machine after so many doings. Rows are lent beside the run, since a rule of the project has them written while it is
+// read, so that each function asks that they are as many as its states.
 fn row_at(run: &Run, rows: &[Counts], machine: usize, done: u16) -> Counts
     requires inside { machine < run.now.count }
     requires done { done ≤ slice_index run.now.did.of machine }
@@ -91,15 +92,4 @@ pub(crate) fn fill(
         }
         return Ok(so_far);
     }
-}
-
-// A machine that isn't at its end.
-pub(crate) fn behind(run: &Run, cut: Counts) -> Option<usize>
-    ensures { MatchOption result ((k : ℕ) → k < run.now.count → counts_of run.now.did k ≤ counts_of cut k) (λ k. (k < run.now.count) × (counts_of cut k < counts_of run.now.did k)) }
-{
-    cut.of
-        .iter()
-        .zip(&run.did.of)
-        .take(run.count)
-        .position(|(done, did)| done < did)
 }

@@ -1,6 +1,6 @@
 // Why a call gave nothing.
-ghost use Rattle.std.specs.Prelude.{◌≡◌, IfOk};
-ghost use Rattle.records.specs.declared.failure.Failure.TheVariants.{Refused};
+ghost use Rattle.std.specs.Prelude.{◌≡◌, IfErr, IfOk};
+ghost use Rattle.records.specs.declared.failure.Failure.TheVariants.{Refused, NoMemory};
 ghost use Rattle.records.specs.Failure.{IsNoMemory};
 
 use std::alloc::{AllocError, AllocFailed};
@@ -15,7 +15,8 @@ pub enum Failure<E> {
 impl<E> Failure<E> {
     // What is refused, unless memory ran out.
     pub fn refused(self) -> Result<E, AllocError>
-        ensures { IfOk result (λ why. self ≡ Refused why) }
+        ensures ok { IfOk result (λ why. self ≡ Refused why) }
+        ensures no_memory { IfErr result (λ error. self ≡ NoMemory error) }
     {
         match self {
             Failure::Refused(why) => Ok(why),

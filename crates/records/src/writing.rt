@@ -29,7 +29,7 @@ impl Kind {
         }
     }
 
-    // The letter's number, 0 where there is none.
+    // The letter's number, 0 where there is none, as the bytes have it.
     fn letter(self) -> u32
         ensures { result ≡ letter_in self }
     {

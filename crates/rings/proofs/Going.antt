@@ -6,7 +6,7 @@ use Rattle.rings.specs.Links.{In, far_of, far, SomeNext, Lowest, Measured, Going
 use Rattle.std.specs.Option.{MatchOption}
 use Rattle.rings.proofs.Comparing.{le_or_lt}
 use Rattle.rings.proofs.Levels.{far_some}
-use Rattle.rings.proofs.Search.{toward_start, toward_more, toward_end, exact_next, exact_near, exact_back}
+use Rattle.rings.proofs.Search.{toward_more, toward_end, exact_next, exact_near, exact_back}
 
 -- a distance below top is an entry
 entry_is : (top n k : ℕ) → far_of top n ≡ k → k < top → n ≡ k

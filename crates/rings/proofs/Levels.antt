@@ -9,7 +9,7 @@ use Rattle.rings.specs.RingSearch.{Level, Raising}
 use Rattle.rings.specs.Links.{link_at, In, far_of, far, Below, Marked, SentFrom, Maybe, ByLetter, Into, Frontier, Leveled}
 use Rattle.rings.proofs.Comparing.{le_or_lt}
 use Rattle.rings.proofs.Search.{level_next}
-use Rattle.rings.proofs.Raising.{raising_none, raising_seen, raising_set, raising_more, raising_all, raising_said}
+use Rattle.rings.proofs.Raising.{raising_seen, raising_set, raising_more, raising_all, raising_said}
 
 -- among the first j
 abbrev pub Among : List ℕ → ℕ → ℕ → Type 0

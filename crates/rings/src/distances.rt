@@ -6,8 +6,8 @@ use crate::links::Links;
 use std::alloc::{AllocError, Global};
 
 // A search for the steps from each number back to a start, where fewer than top, past numbers from the start on alone.
-// The table is lent beside it, as it is written while the links are read. In it a number has its steps once they are
-// known, and 0 before: options there made the way back twice as slow.
+// The table is lent beside it: one serves all searches, and a search that held it could not be copied, nor made for a way back. In it a
+// number has its steps once they are known, and 0 before: options there made the hardest search twice as slow.
 #[derive(Clone, Copy)]
 pub(crate) struct Search<'a> {
     pub(crate) links: &'a Links,

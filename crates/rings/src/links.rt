@@ -23,10 +23,7 @@ impl Links {
         requires { w < length self.now.of.items }
         ensures { SentFrom self.now.of.items s w result }
     {
-        match self.of[w].letter {
-            Some(v) if s <= v => Some(v),
-            _ => None,
-        }
+        self.of[w].letter.filter(|v| s <= *v)
     }
 
     // Does a step lead from v to w. Not inlined, since few of the numbers that `lowest_next` goes by are asked for.

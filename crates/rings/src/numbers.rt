@@ -18,7 +18,7 @@ pub(crate) struct Numbers<'a> {
     ghost numbered: { Numbered run.now places.items begins },
 }
 
-// Puts a machine's doings behind what is there.
+// Puts the places of a machine's doings behind what is there.
 fn push_machine(places: &mut Vec<Place>, machine: u8, did: u16) -> Result<(), AllocError>
     ensures { OnOk result (places.new.items ≡ places.old.items ++ places_of machine did) }
 {
@@ -59,9 +59,7 @@ impl Numbers<'_> {
         // No `map`: its closure would need clauses, longer than the match.
         let letter = match self.run.sending(place.machine as usize, place.doing) {
             None => None,
-            Some(sent) => Some(
-                self.begins.of[sent.machine as usize] as usize + sent.doing as usize - 1,
-            ),
+            Some(sent) => Some(self.begins.index(sent.machine as usize, sent.doing) - 1),
         };
         Link {
             own: place.doing > 1,

@@ -1,13 +1,12 @@
 -- States laid out machine by machine, and letters' sendings written into them.
 use Rattle.std.proofs.Common.{◌≡◌, ℕ, zero, suc, ◌+◌, ◌*◌, ◌<◌, ◌≤◌, List, [], ◌∷◌, ◌++◌, length, get_or, take, set, sym, refl, ap, ◌∙◌, append_assoc, append-nil, arith, length-append, below_more}
-use Rattle.std.proofs.lemmas.List.{take_more, map_more, length-map, length-set, get_or-set_same, get_or-set_other}
-use Rattle.records.specs.declared.doing.Doing.{Doing}
+use Rattle.std.proofs.lemmas.List.{take_more, length-map, length-set, get_or-set_same, get_or-set_other}
 use Rattle.records.specs.Record.{Record, none, machine_of, did_of}
 use Rattle.letters.specs.declared.letter.Letter.{Letter}
 use Rattle.runs.specs.declared.counts.Counts.{Counts}
 use Rattle.runs.specs.declared.state.State.{State}
 use Rattle.runs.specs.Shape.{still}
-use Rattle.runs.specs.Making.{state_after, states_after, states_of, all_states, Laid, heard, got_index, linked}
+use Rattle.runs.specs.Making.{state_after, states_of, all_states, Laid, heard, got_index, linked}
 
 -- one letter more
 linked_push : (starts : Counts) (ls : List Letter) (l : Letter) (ss : List State) → linked starts (ls ++ (l ∷ [])) ss ≡ set (linked starts ls ss) (got_index starts l) (heard l (get_or (linked starts ls ss) (got_index starts l) still))

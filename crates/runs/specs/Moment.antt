@@ -12,3 +12,9 @@ Cut = ℕ → ℕ
 pub record Moment (r : Run) (c : Cut) : Type 0 where
   pub inside : (i : ℕ) → i < r.count → c i ≤ r.did i
   pub closed : (l : Letter) → Memᴰ l r.letters → l.got ≤ c l.to → l.sent ≤ c l.from
+
+-- this machine has a doing left behind the cut, and none below it has
+pub record LowestLeft (r : Run) (c : Cut) (i : ℕ) : Type 0 where
+  pub inside : i < r.count
+  pub left : c i < r.did i
+  pub ends : (k : ℕ) → k < i → r.did k ≤ c k

@@ -1,5 +1,5 @@
 // A number for each of forty machines.
-ghost use Rattle.std.specs.Prelude.{◌≡◌, ℕ, ◌<◌, ◌≤◌, max, length, slice_index, slice_set};
+ghost use Rattle.std.specs.Prelude.{◌≡◌, ℕ, ◌+◌, ◌<◌, ◌≤◌, max, length, slice_index, slice_set};
 
 // So many doings of each machine: a cut, a vector (vector clock), all that there are; or where each machine's states begin. A rule of
 // the project has an array of forty: so a cut is copied, set and joined with no memory that could run out.
@@ -14,6 +14,14 @@ impl Counts {
         ensures { (k : ℕ) → slice_index result.of k ≡ 0 }
     {
         Counts { of: [0; 40] }
+    }
+
+    // So many behind a machine's count.
+    pub fn index(self, machine: usize, behind: u16) -> usize
+        requires { machine < 40 }
+        ensures { result ≡ slice_index self.of machine + behind }
+    {
+        self.of[machine] as usize + behind as usize
     }
 
     // The same but for one machine.

@@ -1,8 +1,10 @@
 // Looks at a run.
-ghost use Rattle.std.specs.Prelude.{◌≡◌, ◌+◌, ◌<◌, ◌≤◌, MatchOption, slice_index, vec_len};
+ghost use Rattle.std.specs.Prelude.{◌≡◌, ℕ, ◌+◌, ◌<◌, ◌≤◌, MatchOption, slice_index, vec_len};
 ghost use Rattle.runs.specs.Shape.{index};
-ghost use Rattle.runs.specs.Model.{state_of, sending_of, signs_of, amounts_of};
+ghost use Rattle.runs.specs.Moment.{LowestLeft};
+ghost use Rattle.runs.specs.Model.{state_of, sending_of, signs_of, amounts_of, counts_of, run_of};
 
+use crate::counts::Counts;
 use crate::run::Run;
 use crate::state::State;
 use records::place::Place;
@@ -17,7 +19,18 @@ impl Run {
         ensures here { result ≡ index self.now.starts machine done }
         ensures within { result < vec_len self.now.states }
     {
-        self.starts.of[machine] as usize + done as usize
+        self.starts.index(machine, done)
+    }
+
+    // The lowest machine that has a doing left behind a cut.
+    pub fn lowest_left(&self, cut: Counts) -> Option<usize>
+        ensures { MatchOption result ((k : ℕ) → k < self.now.count → counts_of self.now.did k ≤ counts_of cut k) (LowestLeft (run_of self.now) (counts_of cut)) }
+    {
+        cut.of
+            .iter()
+            .zip(&self.did.of)
+            .take(self.count)
+            .position(|(done, did)| done < did)
     }
 
     // A machine after so many doings.

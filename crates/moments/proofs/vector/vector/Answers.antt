@@ -13,7 +13,7 @@ returns-clause-lowest c =
     let j = c.args.machine in
     let m = c.args.doing in
     let is : c.index-2.result.now ≡ rows_in o.run (vec_items o.rows) j m =
-        get_or_read (vec_items o.rows) c.index.result c.index-2.result.now (omega (arith, c.index.ensures.within, o.long, o.rows.ok.0)) c.index-2.ensures none ∙ ap (λ (p : ℕ). get_or (vec_items o.rows) p none) c.index.ensures.here in
+    get_or_read (vec_items o.rows) c.index.result c.index-2.result.now (omega (arith, c.index.ensures.within, o.long, o.rows.ok.0)) c.index-2.ensures none ∙ ap (λ (p : ℕ). get_or (vec_items o.rows) p none) c.index.ensures.here in
     let P : Counts → Type 0 = λ w. LowestWith (run_of o.run) j m (counts_of w) in
     subst P (sym is) (rows_lowest o j m c.requires.inside c.requires.some c.requires.done)
 

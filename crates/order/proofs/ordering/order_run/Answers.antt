@@ -18,13 +18,13 @@ pub unwrap-requires : goal.unwrap-requires
 unwrap-requires c =
     let late = c.in-Some.ensures in
     some_ring (run_of c.args.run) c.in_ok-ring-in-Some.ring
-    (ring (run_of c.args.run) (sending_of c.args.run) (counts_of c.in_ok-progress.progress.cut) (linked c.args.run) c.in_ok-progress.ensures.waits c.in-Some.field-0 late.0 late.1) c.in_ok-ring-in-Some.ensures
+    (ring (run_of c.args.run) (sending_of c.args.run) (counts_of c.in_ok-progress.progress.cut) (linked c.args.run) c.in_ok-progress.ensures.waits c.in-Some.field-0 late.inside late.left) c.in_ok-ring-in-Some.ensures
 
 pub returns-in_ok-ring-in-Some-clause-refused : goal.returns-in_ok-ring-in-Some-clause-refused
 returns-in_ok-ring-in-Some-clause-refused c =
     let late = c.in-Some.ensures in
     let found = ring_of (run_of c.args.run) c.in_ok-ring-in-Some.ring c.unwrap.result c.unwrap.ensures c.in_ok-ring-in-Some.ensures in
-    (ring (run_of c.args.run) (sending_of c.args.run) (counts_of c.in_ok-progress.progress.cut) (linked c.args.run) c.in_ok-progress.ensures.waits c.in-Some.field-0 late.0 late.1, found)
+    (ring (run_of c.args.run) (sending_of c.args.run) (counts_of c.in_ok-progress.progress.cut) (linked c.args.run) c.in_ok-progress.ensures.waits c.in-Some.field-0 late.inside late.left, found)
 
 -- once all is ordered, nothing comes before itself, and the rows are the vectors
 all_done : (c : In-None) → Sound (run_of c.args.run) × VectorsOf (run_of c.args.run) (vectors_in c.args.run (with_items c.in_ok-rows.rows c.fill.new.rows).items)
