@@ -1,7 +1,7 @@
 // Bytes that say a value.
 ghost use Rattle.std.specs.Prelude.{◌≡◌, ℕ, List, ◌++◌, OnOk};
 ghost use Rattle.std.specs.List.{flat_map};
-ghost use Rattle.records.specs.Record.{bytes2};
+ghost use Rattle.records.specs.Record.{bytes2, bytes4};
 
 use std::alloc::AllocError;
 
@@ -18,7 +18,15 @@ impl Bytes for u16 {
     ghost bytes = { bytes2 };
 
     fn put(&self, out: &mut Vec<u8>) -> Result<(), AllocError> {
-        out.extend_from_slice(&self.to_be_bytes())
+        out.extend_from_slice(&u16::to_be_bytes(*self))
+    }
+}
+
+impl Bytes for u32 {
+    ghost bytes = { bytes4 };
+
+    fn put(&self, out: &mut Vec<u8>) -> Result<(), AllocError> {
+        out.extend_from_slice(&u32::to_be_bytes(*self))
     }
 }
 

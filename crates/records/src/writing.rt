@@ -57,21 +57,10 @@ impl Bytes for Doing {
     ghost bytes = { doing_bytes };
 
     fn put(&self, out: &mut Vec<u8>) -> Result<(), AllocError> {
-        let l = self.kind.letter().to_be_bytes();
-        let a = self.amount.to_be_bytes();
-        out.extend_from_slice(&[
-            self.kind.code(),
-            l[0],
-            l[1],
-            l[2],
-            l[3],
-            self.sign as u8,
-            a[0],
-            a[1],
-            a[2],
-            a[3],
-        ])?;
-        Ok(())
+        out.push(self.kind.code())?;
+        self.kind.letter().put(out)?;
+        out.push(u8::from(self.sign))?;
+        self.amount.put(out)
     }
 }
 
@@ -80,20 +69,9 @@ impl Head {
     fn put(self, machine: u8, out: &mut Vec<u8>) -> Result<(), AllocError>
         ensures { OnOk result (out.new.items ≡ out.old.items ++ head_bytes machine self.sign self.amount self.count) }
     {
-        let a = self.amount.to_be_bytes();
-        let c = self.count.to_be_bytes();
-        out.extend_from_slice(&[
-            82,
-            machine,
-            self.sign as u8,
-            a[0],
-            a[1],
-            a[2],
-            a[3],
-            c[0],
-            c[1],
-        ])?;
-        Ok(())
+        out.extend_from_slice(&[82, machine, u8::from(self.sign)])?;
+        self.amount.put(out)?;
+        self.count.put(out)
     }
 }
 
