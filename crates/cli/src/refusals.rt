@@ -16,7 +16,7 @@ fn write_form<W: fmt::Write>(
     place: Place,
     names: &[&str],
 ) -> fmt::Result {
-    let Some(name) = names.get(place.machine as usize) else {
+    let Some(name) = names.get(usize::from(place.machine)) else {
         return writeln!(f, "There is no record.");
     };
     match place {

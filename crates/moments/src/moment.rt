@@ -15,7 +15,7 @@ pub(crate) fn is_ready(run: &Run, cut: Counts, machine: usize, doing: u16) -> bo
     ensures { IsTrue result ↔ Ready (sending_of run.now machine doing) (counts_of cut) }
 {
     run.sending(machine, doing)
-        .is_none_or(|sent| sent.doing <= cut.of[sent.machine as usize])
+        .is_none_or(|sent| sent.doing <= cut.of[usize::from(sent.machine)])
 }
 
 // Is that so of all of a machine's doings that are behind the cut.

@@ -38,7 +38,7 @@ fn row_of(
     match run.sending(machine, next) {
         None => Some((before.with(machine, next), 0)),
         Some(sent) => {
-            let from = sent.machine as usize;
+            let from = usize::from(sent.machine);
             if cut.of[from] < sent.doing {
                 return None;
             }

@@ -88,7 +88,7 @@ fn read_doings(
     let mut doings = Vec::new(heap);
     // Counted, and not a loop over the bytes: they may end before so many doings do, and it is told at which.
     for before in 0..count {
-        let Some(doing) = read_doing(&bytes[10 * before as usize..]) else {
+        let Some(doing) = read_doing(&bytes[10 * usize::from(before)..]) else {
             return Err(at_fault(machine, before + 1));
         };
         doings.push(doing)?;
@@ -105,7 +105,7 @@ fn read_record(heap: Global, bytes: &[u8], machine: u8) -> Result<Record, Failur
         return Err(at_fault(machine, 0));
     };
     let doings = read_doings(heap, &bytes[9..], machine, head.count)?;
-    if bytes.len() > 9 + 10 * head.count as usize {
+    if bytes.len() > 9 + 10 * usize::from(head.count) {
         return Err(at_fault(machine, head.count));
     }
     Ok(Record {

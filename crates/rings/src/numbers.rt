@@ -57,9 +57,9 @@ impl Numbers<'_> {
         ensures { result ≡ link_of self.now.run.now self.now.begins place }
     {
         // No `map`: its closure would need clauses, longer than the match.
-        let letter = match self.run.sending(place.machine as usize, place.doing) {
+        let letter = match self.run.sending(usize::from(place.machine), place.doing) {
             None => None,
-            Some(sent) => Some(self.begins.index(sent.machine as usize, sent.doing) - 1),
+            Some(sent) => Some(self.begins.index(usize::from(sent.machine), sent.doing) - 1),
         };
         Link {
             own: place.doing > 1,

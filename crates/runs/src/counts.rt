@@ -21,7 +21,7 @@ impl Counts {
         requires { machine < 40 }
         ensures { result ≡ slice_index self.of machine + behind }
     {
-        self.of[machine] as usize + behind as usize
+        usize::from(self.of[machine]) + usize::from(behind)
     }
 
     // The same but for one machine.

@@ -76,7 +76,7 @@ fn link(states: &mut [State], starts: Counts, letters: &[Letter])
     ensures { states.new ≡ linked starts letters.now states.old }
 {
     for letter in letters {
-        let here = starts.index(letter.to as usize, letter.got);
+        let here = starts.index(usize::from(letter.to), letter.got);
         states[here].sending = Some(Place {
             machine: letter.from,
             doing: letter.sent,

@@ -15,8 +15,8 @@ returns-in_err-doings-clause-refused c =
     (form_weaker _ _ (λ p no. (no.0, doing_fault i bs c.in-Some.head p.doing c.in-Some.ensures (behind (λ xs. NoDoingAt xs c.in-Some.head.count p.doing) bs no.1))))
     c.in_err-doings.ensures.refused
 
-pub returns-then-bytes-head-clause-refused : goal.returns-then-bytes-head-clause-refused
-returns-then-bytes-head-clause-refused c =
+pub returns-then-bytes-from-clause-refused : goal.returns-then-bytes-from-clause-refused
+returns-then-bytes-from-clause-refused c =
     let all = behind (λ xs. Begin xs (vec_items c.in_ok-doings.doings)) c.args.bytes.now c.in_ok-doings.ensures.ok.1 in
-    rw c.at_fault-then-bytes-head.ensures
+    rw c.at_fault-then-bytes-from.ensures
     (refl, too_long c.args.machine c.args.bytes.now c.in-Some.head (vec_items c.in_ok-doings.doings) c.in-Some.ensures (omega (arith, c.in_ok-doings.doings.ok.0, c.in_ok-doings.ensures.ok.0)) all (omega arith))
