@@ -14,7 +14,7 @@ use std::process::ExitCode;
 const USAGE: &str = "usage: all RECORD..
   RECORD..  the machines' records, in order of machines from 0";
 
-// A cut, as so many doings of each machine.
+// A cut, as so many doings of each machine: the first so many of forty counts, where an answer has a list.
 fn tell_cut(rt: &HostRuntime, machines: usize, cut: Counts) -> io::Result<()> {
     for count in cut.of.iter().take(machines) {
         print!(rt; " {count}")?;

@@ -31,7 +31,8 @@ fn front_of(heap: Global, front: &[u8]) -> Result<Option<Answer>, AllocError>
     }
 }
 
-// The answer whose bytes these are, if they are an answer's.
+// The answer whose bytes these are, if they are an answer's. That they are none is told by no error: it is what was asked, and is judged
+// as any answer is.
 pub fn read_answer(heap: Global, bytes: &[u8]) -> Result<Option<Counted>, AllocError>
     ensures { IfOk result (AnswerRead bytes.now) }
 {

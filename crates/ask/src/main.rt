@@ -45,6 +45,7 @@ fn ask<'a>(
     Ok(ExitCode::FAILURE)
 }
 
+// The questions' words stand here and in `check`: one of the four has a type so far, and each program matches all its words at once.
 fn run<'a>(rt: &HostRuntime, words: &[&'a str]) -> Result<ExitCode, Stop<FileError<'a>>> {
     match words {
         ["--help"] => help(rt, USAGE),

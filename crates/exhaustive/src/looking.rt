@@ -14,7 +14,7 @@ use records::refusal::Refusal;
 use runs::run::Run;
 use std::alloc::{AllocError, Global};
 
-// Looks at each cut of a run, if they are few.
+// Looks at each cut of a run, if they are few. That they are too many is told by no error: it is a result, which the program prints.
 pub(crate) fn look_at_each(heap: Global, run: &Run) -> Result<Option<Findings>, AllocError>
     ensures { IfOk result (LookedAs (run_of run.now) (signs_of run.now) (amounts_of run.now)) }
 {

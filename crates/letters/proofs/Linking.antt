@@ -1,6 +1,7 @@
 -- Letters that were got, each with its sending.
 use Rattle.std.proofs.Common.{◌≡◌, ℕ, ◌+◌, ◌<◌, ◌≤◌, ◌⊎◌, List, [], ◌∷◌, ◌++◌, length, is_some, None, sym, refl, ap, ◌∙◌, subst, inl, inr, true≢false, arith}
 use mathlib.Core.List.Memᴰ
+use Rattle.std.proofs.lemmas.Bool.{cases_order}
 use mathlib.Core.List.{Memᴰ}
 use Rattle.records.specs.declared.doing.Kind.{Kind}
 use Rattle.records.specs.declared.doing.Kind.TheVariants.{Neither, Sends, Gets}
@@ -115,14 +116,11 @@ module _ (rs : List Record) where
 
   -- two places, the same or one earlier
   which : (p q : Place) → Earlier p q ⊎ (Earlier q p ⊎ ((p.machine ≡ q.machine) × (p.doing ≡ q.doing)))
-  which p q = elim (tri p.machine q.machine) [
-    | inl h ↦ inl (inl h)
-    | inr (inl h) ↦ inr (inl (inl h))
-    | inr (inr e) ↦ elim (tri p.doing q.doing) [ inl h ↦ inl (inr (e, h)) | inr (inl h) ↦ inr (inl (inr (sym e, h))) | inr (inr f) ↦ inr (inr (e, f)) ]
+  which p q = elim (cases_order p.machine q.machine) [
+    | inl e ↦ elim (cases_order p.doing q.doing) [ inl f ↦ inr (inr (e, f)) | inr (inl h) ↦ inl (inr (e, h)) | inr (inr h) ↦ inr (inl (inr (sym e, h))) ]
+    | inr (inl h) ↦ inl (inl h)
+    | inr (inr h) ↦ inr (inl (inl h))
   ]
-    where
-      tri : (m n : ℕ) → (m < n) ⊎ ((n < m) ⊎ (m ≡ n))
-      tri m n = grind arith
 
   -- one doing sends it
   one_sender : ((q : Place) → Again rs q → ⊥) → (p q : Place) (k : ℕ) → kind_of rs p.machine p.doing ≡ Sends k → kind_of rs q.machine q.doing ≡ Sends k → (p.machine ≡ q.machine) × (p.doing ≡ q.doing)

@@ -1,5 +1,6 @@
 -- A file that is no record shows it at one doing only, and a record at none.
 use Rattle.std.proofs.Common.{◌≡◌, ℕ, ◌+◌, ◌/◌, ◌%◌, ◌<◌, ◌≤◌, Bool, ◌⊎◌, List, [], ◌∷◌, ◌++◌, length, get_or, drop, sym, refl, ap, ◌∙◌, subst, inl, inr, append_assoc, append-nil, arith, length-append}
+use Rattle.std.proofs.lemmas.Bool.{cases_order}
 use Rattle.records.specs.declared.doing.Doing.{Doing}
 use Rattle.records.specs.Record.{Record, DoingFits, DoingsFit, RecordFits, head_bytes, doing_bytes, doings_bytes, record_bytes}
 use Rattle.records.specs.Refusal.{Begun, FileFault}
@@ -43,16 +44,13 @@ module _ (i : ℕ) (f : List ℕ) where
   pub front : {n : ℕ} {ds : List Doing} {x : List ℕ} → Begun i f n ds x → Begun i f n [] (doings_bytes ds ++ x)
   front b = record { sign = b.sign; amount = b.amount; amount_fits = b.amount_fits; few = b.few; within = omega arith; fit = tt; bytes = b.bytes }
 
-  tri : (m n : ℕ) → (m < n) ⊎ ((n < m) ⊎ (m ≡ n))
-  tri m n = grind arith
-
   pub one_fault : {m n : ℕ} → FileFault i f m → FileFault i f n → m ≡ n
   one_fault (FileFault.head none) (FileFault.head others) = refl
   one_fault (FileFault.head none) (FileFault.doing b lt last) = absurd (none _ _ (front b))
   one_fault (FileFault.head none) (FileFault.too_long b e) = absurd (none _ _ (front b))
   one_fault (FileFault.doing b lt last) (FileFault.head none) = absurd (none _ _ (front b))
   one_fault (FileFault.doing {ds = ds} b lt last) (FileFault.doing {ds = es} c lt' last') =
-      elim (tri (length ds) (length es)) [ inl h ↦ absurd (no_next b c h last) | inr (inl h) ↦ absurd (no_next c b h last') | inr (inr h) ↦ omega arith ]
+      elim (cases_order (length ds) (length es)) [ inl h ↦ omega arith | inr (inl h) ↦ absurd (no_next b c h last) | inr (inr h) ↦ absurd (no_next c b h last') ]
   one_fault (FileFault.doing b lt last) (FileFault.too_long c e) = let same = one_count b c in absurd (no_next b c (omega arith) last)
   one_fault (FileFault.too_long b e) (FileFault.head none) = absurd (none _ _ (front b))
   one_fault (FileFault.too_long b e) (FileFault.doing c lt last) = let same = one_count b c in absurd (no_next c b (omega arith) last)

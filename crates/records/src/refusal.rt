@@ -24,8 +24,7 @@ impl Bytes for Place {
 
     fn put(&self, out: &mut Vec<u8>) -> Result<(), AllocError> {
         let doing = self.doing.to_be_bytes();
-        out.extend_from_slice(&[self.machine, doing[0], doing[1]])?;
-        Ok(())
+        out.extend_from_slice(&[self.machine, doing[0], doing[1]])
     }
 }
 

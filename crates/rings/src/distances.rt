@@ -92,6 +92,7 @@ impl Search<'_> {
         ensures { OnOk result (Measured self.now.links.now.of.items self.now.start self.now.top table.new) }
     {
         let mut at_k = self.begin(heap, table)?;
+        // The level, and no index: a level is made of the one before.
         let mut k = 1;
         while k + 1 < self.top && !at_k.is_empty() {
             at_k = self.level(heap, table, k, &at_k)?;

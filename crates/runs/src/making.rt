@@ -47,8 +47,7 @@ fn push_states(states: &mut Vec<State>, recorded: &Record) -> Result<(), AllocEr
         amount: recorded.amount,
         sending: None,
     })?;
-    push_doings(states, &recorded.doings)?;
-    Ok(())
+    push_doings(states, &recorded.doings)
 }
 
 // Lays all machines' states out.
