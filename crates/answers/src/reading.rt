@@ -18,7 +18,7 @@ fn counts_of(heap: Global, bytes: &[u8]) -> Result<Vec<u16>, AllocError>
         .collect(heap)
 }
 
-// What stands before the counts of steps.
+// What stands before the counts of steps. That it is no such thing is told by no error, as in `read_answer`.
 fn front_of(heap: Global, front: &[u8]) -> Result<Option<Answer>, AllocError>
     ensures { IfOk result (FrontRead front.now) }
 {

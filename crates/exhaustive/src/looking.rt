@@ -25,7 +25,7 @@ pub(crate) fn look_at_each(heap: Global, run: &Run) -> Result<Option<Findings>, 
     Ok(Some(cuts.survey(!avoided)))
 }
 
-// Looks at each cut of the run that the files recorded, if they are few. The telling beginning of a long file is enough.
+// Looks at each cut of the run that the files recorded, if they are few; too many are told by no error here either. The telling beginning of a long file is enough.
 pub fn look_at_files(heap: Global, files: &[Vec<u8>]) -> Result<Option<Findings>, Failure<Refusal>>
     ensures replied { IfOk result (λ looked. (whole : List (List ℕ)) → BeginAlike whole (files_of files.now) → RepliedAs whole looked) }
     ensures refused { IfRefused result (λ why. (whole : List (List ℕ)) → BeginAlike whole (files_of files.now) → RefusedRightly whole why) }

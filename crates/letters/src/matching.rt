@@ -15,7 +15,8 @@ use records::records::Records;
 use records::refusal::Refusal;
 use std::alloc::Global;
 
-// Puts the letters that one machine got behind those of the machines before it, up to the first that nobody sent.
+// Puts the letters that one machine got behind those of the machines before it, up to the first that nobody sent. That its doings are
+// few is asked for here too: it is in the type of all records, and not in that of one.
 fn match_machine(
     letters: &mut Vec<Letter>,
     seen: &Seen,

@@ -79,7 +79,8 @@ fn note_machine(seen: &mut Seen, machine: u8, doings: &[Doing]) -> Result<(), Fa
     Ok(())
 }
 
-// Notes all doings, by machine, then doing.
+// Notes all doings, by machine, then doing. What is wrong with records is said by three functions in the same words: it is what each
+// promises, and no fact about a value that they share.
 pub(crate) fn note_all(heap: Global, records: &Records) -> Result<Seen, Failure<Refusal>>
     ensures ok { IfOk result (Noted (records_of records.now.list.items)) }
     ensures refused { IfRefused result (Wrong (records_of records.now.list.items)) }

@@ -30,7 +30,7 @@ impl<'a> Reached<'a> {
         self.cut.of[..self.run.count] == self.run.did.of[..self.run.count]
     }
 
-    // The moment after a machine's next doing, if there is one.
+    // The moment after a machine's next doing, if there is one. No `then_some`: it would make the moment before it is known to be one.
     fn go_on(&self, machine: usize) -> Option<Reached<'a>>
         requires { machine < self.now.run.now.count }
         ensures { MatchOption result (Moment (run_of self.now.run.now) (go_on (counts_of self.now.cut) machine) → ⊥) (After self.now machine) }

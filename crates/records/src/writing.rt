@@ -29,7 +29,7 @@ impl Kind {
         }
     }
 
-    // The letter's number, 0 where there is none, as the bytes have it.
+    // The letter's number, 0 where there is none, as the bytes have it. By hand: two numbers say a kind, and no cast gives a case's value.
     fn letter(self) -> u32
         ensures { result ≡ letter_in self }
     {

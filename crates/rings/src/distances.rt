@@ -7,7 +7,7 @@ use std::alloc::{AllocError, Global};
 
 // A search for the steps from each number back to a start, where fewer than top, past numbers from the start on alone.
 // The table is lent beside it: one serves all searches, and a search that held it could not be copied, nor made for a way back. In it a
-// number has its steps once they are known, and 0 before: options there made the hardest search twice as slow.
+// number has its steps once they are known, and 0 before: options there made the hardest search almost twice as slow.
 #[derive(Clone, Copy)]
 pub(crate) struct Search<'a> {
     pub(crate) links: &'a Links,

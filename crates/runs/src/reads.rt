@@ -69,7 +69,7 @@ impl Run {
         self.state(machine, done).amount
     }
 
-    // The machine's next doing, if it has one.
+    // The machine's next doing, if it has one. No `then`: its closure is not told what was tested.
     pub fn next(&self, machine: usize, done: u16) -> Option<u16>
         requires inside { machine < self.now.count }
         ensures { MatchOption result (slice_index self.now.did.of machine ≤ done) (λ m. (m ≡ done + 1) × (m ≤ slice_index self.now.did.of machine)) }

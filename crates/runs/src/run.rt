@@ -9,6 +9,7 @@ use crate::state::State;
 // one fact: a list for each machine would need one for each, and a list of lists of vectors.
 #[derive(Drop)]
 pub struct Run {
+    // how many of the forty there are: a rule of the project has arrays of forty
     pub count: usize,
     pub did: Counts,
     pub starts: Counts,
