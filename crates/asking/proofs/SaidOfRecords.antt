@@ -1,6 +1,7 @@
 -- What is decided of a run, said of the records that make it.
 use Rattle.std.proofs.Common.{◌≡◌, ℕ, zero, suc, ◌+◌, ◌*◌, ◌<◌, ◌≤◌, List, length, take, vec_items, sym, ap, ◌∙◌, subst, mul-le-mul, add-one, arith}
 use Rattle.std.proofs.lemmas.List.{take_all}
+use Rattle.records.specs.declared.refusal.Refusal.{Refusal}
 use Rattle.records.specs.Record.{Record, records_of, did_of, doings_in, sign_of}
 use Rattle.letters.specs.declared.matched.Matched.{Matched}
 use Rattle.letters.proofs.Machines.{doings_more}
@@ -8,7 +9,7 @@ use Rattle.runs.specs.Run.{Run, Makes}
 use Rattle.runs.specs.Moment.{Cut}
 use Rattle.runs.specs.Model.{run_of, signs_of}
 use Rattle.order.specs.declared.ordered.Ordered.{Ordered}
-use Rattle.order.specs.Asked.{InOrderAs}
+use Rattle.order.specs.Asked.{InOrderAs, RefusedRightly}
 use Rattle.order.proofs.Recorded.{recorded_run}
 use Rattle.moments.specs.Amounts.{sum, doings}
 use Rattle.moments.specs.Signs.{Says}
@@ -17,10 +18,11 @@ use Rattle.moments.proofs.Agreeing.{Agree, agree_back, first_agree, may_agree, s
 use Rattle.answers.specs.declared.question.Question as code
 use Rattle.answers.specs.declared.question.Question.TheVariants as questions
 use Rattle.answers.specs.Model.{question_of}
-use Rattle.answers.specs.Answer.{Answer, may_yes, may_no, must_yes, must_no, Counted, Reply, answered, may}
+use Rattle.answers.specs.Answer.{Answer, may_yes, may_no, must_yes, must_no, Counted, Question, Reply, answered, refused, may}
 use Rattle.answers.specs.Answer as said
 use Rattle.asking.specs.Shown.{Answers, may_be, never_be}
 use Rattle.asking.specs.Promise.{Right, decided}
+use Rattle.asking.specs.Promise as right
 use Rattle.order.specs.Vectors.{Vectors, VectorsOf}
 use Rattle.moments.specs.Cuts.{Below}
 use Rattle.may_must.specs.MaySearch.{LowestNo, Searched, begins, joins}
@@ -46,6 +48,10 @@ may_answers rs r s same (must_yes ts) h = absurd h
 may_answers rs r s same (must_no way) h = absurd h
 may_answers rs r s same (said.Answer.least sum cut flows) h = absurd h
 may_answers rs r s same (said.Answer.most sum cut flows) h = absurd h
+
+-- what is rightly refused is a right reply to any question
+pub refused_right : (fs : List (List ℕ)) (q : Question) (why : Refusal) → RefusedRightly fs why → Right fs q (refused why)
+refused_right fs q why h = right.refused h
 
 -- n d pairs are within 4 n (d + n)
 few_enough : (n d p : ℕ) → p ≤ n * d → p ≤ 4 * n * (d + n)

@@ -16,6 +16,7 @@ use records::refusal::Refusal;
 use std::alloc::Global;
 
 // The answer to a question on files of records, or why they are refused. The telling beginning of a long file is enough.
+#[tactic(auto, using(crate::proofs::SaidOfRecords::refused_right))]
 pub fn answer_question(
     heap: Global,
     files: &[Vec<u8>],

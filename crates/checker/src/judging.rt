@@ -22,8 +22,11 @@ pub fn judge(
 {
     match order_files(heap, files) {
         Err(failure) => Ok(Verdict::Refused(failure.refused()?)),
-        Ok(asked) => match question {
-            Question::May => look(heap, &asked.ordered, bytes),
-        },
+        Ok(asked) => {
+            let verdict = match question {
+                Question::May => look(heap, &asked.ordered, bytes)?,
+            };
+            Ok(verdict)
+        }
     }
 }

@@ -1,7 +1,7 @@
 // Refusals in words.
 use records::place::Place;
 use records::refusal::Refusal;
-use std::{fmt, io};
+use std::fmt;
 
 // What a refusal means. The files of the records are named.
 #[derive(Clone, Copy)]
@@ -66,13 +66,15 @@ impl fmt::Display for Why<'_> {
     }
 }
 
-// A refusal: a line that programs can read, then what it means.
-pub fn tell_refusal(rt: &HostRuntime, refusal: &Refusal, names: &[&str]) -> io::Result<()> {
+// A refusal: a line that programs can read, then what it means. Any error, and no `io::Error`: that one would tell want of memory in
+// words of its own.
+pub fn tell_refusal(rt: &HostRuntime, refusal: &Refusal, names: &[&str]) -> anyhow::Result<()> {
     let number = refusal.number();
     print!(rt; "refused {number} at")?;
     for Place { machine, doing } in &refusal.places(rt.alloc())? {
         print!(rt; " {machine} {doing}")?;
     }
     let why = Why { refusal, names };
-    print!(rt; "\n{why}")
+    print!(rt; "\n{why}")?;
+    Ok(())
 }

@@ -55,6 +55,12 @@ impl<E> From<io::Error> for Stop<E> {
     }
 }
 
+impl<E> From<anyhow::Error> for Stop<E> {
+    fn from(error: anyhow::Error) -> Stop<E> {
+        Stop::Other(error)
+    }
+}
+
 // Prints the usage, as is asked for by `--help`.
 pub fn help<E>(rt: &HostRuntime, usage: &str) -> Result<ExitCode, Stop<E>> {
     println!(rt; "{usage}")?;

@@ -1,12 +1,11 @@
 -- What all cuts come to.
-use Rattle.std.proofs.Common.{◌≡◌, ℕ, Bool, true, false, not, List, Some, None, vec_items, Decides, Option, sym, refl, ◌∙◌, subst, arith}
+use Rattle.std.proofs.Common.{ℕ, Bool, true, false, not, List, Some, None, vec_items, Decides, Option, refl, ◌∙◌, subst, arith}
 use Rattle.std.proofs.lemmas.Bool.{both_ways}
 use Rattle.records.specs.Record.{records_of, sign_of, amount_of}
 use Rattle.letters.specs.declared.matched.Matched.{Matched}
 use Rattle.runs.specs.declared.counts.Counts.{Counts}
 use Rattle.runs.specs.Run.{Run, Done}
 use Rattle.runs.specs.Model.{run_of, signs_of, amounts_of, counts_of}
-use Rattle.runs.proofs.Linked.{linked}
 use Rattle.order.specs.declared.ordered.Ordered.{Ordered}
 use Rattle.order.specs.Asked.{InOrderAs}
 use Rattle.moments.specs.Signs.{Says, Must, ComesTo, FirstOrNone}
@@ -26,25 +25,22 @@ pub always : Always
 always = record { number = one_number; may = may_decided; must = must_decided; least = least_found; most = most_found }
 
 -- every way has a moment of all yes exactly if the run can't come to its end without
-must_unless : (r : Run) → Done r → (s : Says) (b : Bool) → Decides b (ComesTo r s r.did) → Decides (not b) (Must r s)
+pub must_unless : (r : Run) → Done r → (s : Says) (b : Bool) → Decides b (ComesTo r s r.did) → Decides (not b) (Must r s)
 must_unless r done s true told = (λ e. absurd (both_ways false refl e), λ must. absurd (must_not r done s (told.0 refl) must))
 must_unless r done s false told = (λ _. must_be r done s (λ end. both_ways false refl (told.1 end)), λ _. refl)
 
 -- what was found at all cuts
-pub found_all : (cuts : held.Cuts) (f : Findings) (avoided : Bool) → Decides avoided (ComesTo (run_of cuts.run.now) (signs_of cuts.run.now) (counts_of cuts.run.now.did)) → f.must ≡ not avoided
-    → SurveyedOf cuts.run.now cuts.count f → LookedAs (run_of cuts.run.now) (signs_of cuts.run.now) (amounts_of cuts.run.now) (Some f)
-found_all cuts f avoided told must all =
+pub found_all : (cuts : held.Cuts) (f : Findings) → SurveyedOf cuts.run.now cuts.count f → Decides f.must (Must (run_of cuts.run.now) (signs_of cuts.run.now)) → LookedAs (run_of cuts.run.now) (signs_of cuts.run.now) (amounts_of cuts.run.now) (Some f)
+found_all cuts f all must =
     let run = cuts.run.now in
     let r = run_of run in
-    let s = signs_of run in
     let P : ℕ → Type 0 = λ n. SurveyedOf run n f in
-    let M : Bool → Type 0 = λ b. Decides b (Must r s) in
     let seen = subst P cuts.counted all in (
       omega (arith, cuts.counted, cuts.few),
       record {
         moments = count_all r f.moments seen.moments;
-        may = first_all r s f.first seen.first;
-        must = subst M (sym must) (must_unless r (linked run).range s avoided told);
+        may = first_all r (signs_of run) f.first seen.first;
+        must = must;
         least = least_all r (amounts_of run) (counts_of f.least.at) seen.least;
         most = most_all r (amounts_of run) (counts_of f.most.at) seen.most;
         least_sum = seen.least_sum;

@@ -1,7 +1,7 @@
 -- Marks on cuts, one after the other.
-use Rattle.std.proofs.Common.{◌≡◌, ℕ, ◌+◌, ◌-◌, ◌<◌, Bool, false, List, length, get_or, set, Some, Decides, Option, sym, ap, ◌∙◌, subst, inl, inr, arith}
-use Rattle.std.proofs.lemmas.List.{get_or-set_same, get_or-set_other}
-use Rattle.std.proofs.lemmas.Bool.{cases_lt}
+use Rattle.std.proofs.Common.{◌≡◌, ◌≢◌, ℕ, ◌+◌, ◌-◌, ◌<◌, ◌≤◌, Bool, false, List, length, replicate, get_or, set, Some, Decides, Option, sym, refl, ap, ◌∙◌, subst, inl, inr, arith}
+use Rattle.std.proofs.lemmas.List.{get_or-set_same, get_or-set_other, get_or-replicate, get_or_past, length-replicate}
+use Rattle.std.proofs.lemmas.Bool.{cases_lt, both_ways}
 use Rattle.std.proofs.lemmas.Option.{MatchOption-at_some}
 use Rattle.runs.specs.declared.run.Run as code
 use Rattle.runs.specs.Run.{Run, Done}
@@ -43,36 +43,68 @@ module _ (r : Run) (done : Done r) (s : Says) (marks : List Bool) (c : Cut) (ins
       let some : 0 < c i = omega (arith, next.one) in
       inr (i, next.inside, some, (before i next.inside some).1 (comes_alike r done s (back c i) (next_back r x c next) from))
 
-  -- one mark more
-  pub mark_more : (b : Bool) → rank_of r c < length marks → Decides b (ComesTo r s c) → Marked r s (set marks (rank_of r c) b) (rank_of r c + 1)
-  mark_more b lt told d id h =
+  -- one mark more, and those before it as they were
+  pub mark_more : (b : Bool) (marks' : List Bool) → get_or marks' (rank_of r c) false ≡ b → ((k : ℕ) → k ≢ rank_of r c → get_or marks' k false ≡ get_or marks k false) → Decides b (ComesTo r s c) → Marked r s marks' (rank_of r c + 1)
+  mark_more b marks' here others told d id h =
       let n = rank_of r c in
+      let P : Bool → Type 0 = λ x. Decides x (ComesTo r s d) in
       elim (cases_lt (rank_of r d) n) [
-        | inl old ↦
-            let P : Bool → Type 0 = λ x. Decides x (ComesTo r s d) in
-            subst P (sym (get_or-set_other marks n (rank_of r d) b false (λ e. omega (arith, e)))) (marked d id old)
+        | inl old ↦ subst P (sym (others (rank_of r d) (λ e. omega (arith, e)))) (marked d id old)
         | inr late ↦
             let e : rank_of r d ≡ n = omega arith in
             let same : Alike r c d = rank_once r.did r.count c d inside id (sym e) in
-            let is : get_or (set marks n b) (rank_of r d) false ≡ b = ap (λ (x : ℕ). get_or (set marks n b) x false) e ∙ get_or-set_same marks n b false lt in
-            let P : Bool → Type 0 = λ x. Decides x (ComesTo r s d) in
+            let is : get_or marks' (rank_of r d) false ≡ b = ap (λ (x : ℕ). get_or marks' x false) e ∙ here in
             subst P (sym is) (λ t. comes_alike r done s d same (told.0 t), λ x. told.1 (comes_alike r done s c (λ i k. sym (same i k)) x))
       ]
 
+-- of the first n cuts just those are marked to which the run can have come, and none of the others is
+pub record Sofar (run : code.Run) (marks : List Bool) (n : ℕ) : Type 0 where
+  pub marked : Marked (run_of run) (signs_of run) marks n
+  pub clear : (k : ℕ) → n ≤ k → get_or marks k false ≡ false
+
+-- before the first, none is
+pub unmarked : (run : code.Run) (n : ℕ) → Sofar run (replicate n false) 0
+unmarked run n = record {
+  marked = λ c id lt. absurd (omega arith);
+  clear = λ k _. elim (cases_lt k n) [ inl lt ↦ get_or-replicate n k false false lt | inr ge ↦ get_or_past (replicate n false) k false (omega (arith, ge, length-replicate n false)) ];
+}
+
 -- the marks at the next turn
-pub mark_turn : (run : code.Run) (count : ℕ) (marks : List Bool) (now : Option held.Cut) (cut : held.Cut) (next : Option held.Cut) (b : Bool) → count ≡ cuts_of (run_of run) → length marks ≡ count → now ≡ Some cut → Follows cut next
-    → Decides b (ComesTo (run_of cut.run.now) (signs_of cut.run.now) (counts_of cut.counts)) → AtTurn run count (Marked (run_of run) (signs_of run) marks) now → AtTurn run count (Marked (run_of run) (signs_of run) (set marks cut.number b)) next
-mark_turn run count marks now cut next b all long is follows told marked =
+pub mark_turn : (run : code.Run) (count : ℕ) (marks marks' : List Bool) (now : Option held.Cut) (cut : held.Cut) (next : Option held.Cut) (b : Bool) → count ≡ cuts_of (run_of run)
+    → get_or marks' cut.number false ≡ b → ((k : ℕ) → k ≢ cut.number → get_or marks' k false ≡ get_or marks k false) → now ≡ Some cut → Follows cut next
+    → Decides b (ComesTo (run_of cut.run.now) (signs_of cut.run.now) (counts_of cut.counts)) → AtTurn run count (Sofar run marks) now → AtTurn run count (Sofar run marks') next
+mark_turn run count marks marks' now cut next b all here others is follows told sofar =
     let r = run_of run in
     let s = signs_of run in
     let c = counts_of cut.counts in
-    let old : (cut.run.now ≡ run) × Marked r s marks cut.number = MatchOption-at_some _ _ cut is marked in
+    let old : (cut.run.now ≡ run) × Sofar run marks cut.number = MatchOption-at_some _ _ cut is sofar in
     let of = cut_of run cut old.0 in
     let P : ℕ → Type 0 = Marked r s marks in
-    let Q : ℕ → Type 0 = λ n. Marked r s (set marks n b) (n + 1) in
+    let H : ℕ → Type 0 = λ n. get_or marks' n false ≡ b in
+    let O : ℕ → Type 0 = λ n. (k : ℕ) → k ≢ n → get_or marks' k false ≡ get_or marks k false in
+    let Q : ℕ → Type 0 = λ n. Marked r s marks' (n + 1) in
     let R : code.Run → Type 0 = λ x. Decides b (ComesTo (run_of x) (signs_of x) c) in
-    let more : Marked r s (set marks cut.number b) (cut.number + 1) = subst Q (sym of.numbered) (mark_more r (linked run).range s marks c of.inside (subst P of.numbered old.1) b (omega (arith, of.numbered, of.within, long, all)) (subst R old.0 told)) in
-    at_next run count (Marked r s (set marks cut.number b)) cut next all old.0 follows more
+    let more = mark_more r (linked run).range s marks c of.inside (subst P of.numbered old.1.marked) b marks' (subst H of.numbered here) (subst O of.numbered others) (subst R old.0 told) in
+    let sofar' : Sofar run marks' (cut.number + 1) = record {
+      marked = subst Q (sym of.numbered) more;
+      clear = λ k le. others k (λ e. omega (arith, e)) ∙ old.1.clear k (omega arith);
+    } in
+    at_next run count (Sofar run marks') cut next all old.0 follows sofar'
+
+-- where a mark is set, no other changes
+pub mark_set : (run : code.Run) (count : ℕ) (marks : List Bool) (now : Option held.Cut) (cut : held.Cut) (next : Option held.Cut) (b : Bool) → count ≡ cuts_of (run_of run) → length marks ≡ count → now ≡ Some cut → Follows cut next
+    → Decides b (ComesTo (run_of cut.run.now) (signs_of cut.run.now) (counts_of cut.counts)) → AtTurn run count (Sofar run marks) now → AtTurn run count (Sofar run (set marks cut.number b)) next
+mark_set run count marks now cut next b all long is follows told sofar =
+    let old : (cut.run.now ≡ run) × Sofar run marks cut.number = MatchOption-at_some _ _ cut is sofar in
+    let of = cut_of run cut old.0 in
+    mark_turn run count marks (set marks cut.number b) now cut next b all (get_or-set_same marks cut.number b false (omega (arith, of.within, long, all))) (λ k ne. get_or-set_other marks cut.number k b false ne) is follows told sofar
+
+-- at a cut that is no moment none is set
+pub mark_none : (run : code.Run) (count : ℕ) (marks : List Bool) (now : Option held.Cut) (cut : held.Cut) (next : Option held.Cut) → count ≡ cuts_of (run_of run) → now ≡ Some cut → Follows cut next
+    → (Moment (run_of cut.run.now) (counts_of cut.counts) → ⊥) → AtTurn run count (Sofar run marks) now → AtTurn run count (Sofar run marks) next
+mark_none run count marks now cut next all is follows never sofar =
+    let old : (cut.run.now ≡ run) × Sofar run marks cut.number = MatchOption-at_some _ _ cut is sofar in
+    mark_turn run count marks marks now cut next false all (old.1.clear cut.number (omega arith)) (λ k ne. refl) is follows (λ e. absurd (both_ways false refl e), λ comes. absurd (never (comes_moment (run_of cut.run.now) (linked cut.run.now).range (signs_of cut.run.now) comes))) sofar
 
 -- what the program looks at decides whether the run can have come to a cut
 module _ (cut : held.Cut) (marks : List Bool) (marked : Marked (run_of cut.run.now) (signs_of cut.run.now) marks cut.number) where

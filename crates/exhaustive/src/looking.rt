@@ -21,8 +21,7 @@ pub(crate) fn look_at_each(heap: Global, run: &Run) -> Result<Option<Findings>, 
     let Some(cuts) = Cuts::of(run) else {
         return Ok(None);
     };
-    let avoided = cuts.can_avoid(heap)?;
-    Ok(Some(cuts.survey(!avoided)))
+    Ok(Some(cuts.survey(heap)?))
 }
 
 // Looks at each cut of the run that the files recorded, if they are few; too many are told by no error here either. The telling beginning of a long file is enough.

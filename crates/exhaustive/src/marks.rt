@@ -1,13 +1,12 @@
-// A pass over all cuts that marks those to which the run can have come with no moment of all yes so far.
-ghost use Rattle.std.specs.Prelude.{◌≡◌, length, IfOk, ◌↔◌, IsTrue};
+// Marks on the cuts to which the run can have come with no moment of all yes so far.
+ghost use Rattle.std.specs.Prelude.{◌≡◌, length, ◌↔◌, IsTrue};
 ghost use Rattle.runs.specs.Model.{run_of, signs_of, counts_of};
+ghost use Rattle.runs.specs.Moment.{Moment};
 ghost use Rattle.moments.specs.Signs.{ComesTo};
 ghost use Rattle.exhaustive.specs.Counter.{cuts_of};
 ghost use Rattle.exhaustive.specs.Marks.{Marked, Came};
 
-use crate::cut::{Cut, Cuts};
-use moments::moment::is_moment;
-use std::alloc::{AllocError, Global};
+use crate::cut::Cut;
 
 impl Cut<'_> {
     // Is the cut the first, or is some cut marked that has one doing less behind it. A doing of a machine makes as much of a cut's
@@ -29,25 +28,13 @@ impl Cut<'_> {
         false
     }
 
-    // Can the run have come to the cut so.
-    fn comes(&self, marks: &[bool]) -> bool
+    // Can the run have come so to the cut, which is a moment.
+    pub(crate) fn comes(&self, marks: &[bool]) -> bool
         requires long { length marks.now ≡ cuts_of (run_of self.now.run.now) }
         requires marked { Marked (run_of self.now.run.now) (signs_of self.now.run.now) marks.now self.now.number }
+        requires moment { Moment (run_of self.now.run.now) (counts_of self.now.counts) }
         ensures { IsTrue result ↔ ComesTo (run_of self.now.run.now) (signs_of self.now.run.now) (counts_of self.now.counts) }
     {
-        self.came(marks) && !self.all_yes() && is_moment(self.run, self.counts)
-    }
-}
-
-impl Cuts<'_> {
-    // Can the run have come to its end so.
-    pub(crate) fn can_avoid(&self, heap: Global) -> Result<bool, AllocError>
-        ensures { IfOk result (λ x. IsTrue x ↔ ComesTo (run_of self.now.run.now) (signs_of self.now.run.now) (counts_of self.now.run.now.did)) }
-    {
-        let mut marks = vec![in heap; false; self.count]?;
-        for cut in self.iter() {
-            marks[cut.number] = cut.comes(&marks);
-        }
-        Ok(marks[self.count - 1])
+        self.came(marks) && !self.all_yes()
     }
 }

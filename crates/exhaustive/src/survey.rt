@@ -1,11 +1,15 @@
-// A pass over all cuts: how many moments there are, the first of all yes, the least and the most.
-ghost use Rattle.std.specs.Prelude.{◌≡◌, ◌+◌, Bool, if◌then◌else◌};
+// A pass over all cuts: how many moments there are, the first of all yes, whether every way has one, the least and the most.
+ghost use Rattle.std.specs.Prelude.{◌≡◌, ◌+◌, Bool, if◌then◌else◌, ◌↔◌, IsTrue, IfOk};
+ghost use Rattle.runs.specs.Moment.{Moment};
+ghost use Rattle.runs.specs.Model.{run_of, signs_of, counts_of};
+ghost use Rattle.moments.specs.Signs.{Must};
 ghost use Rattle.exhaustive.specs.Survey.{SurveyedOf};
 
 use crate::cut::{Cut, Cuts};
 use crate::extreme::Extreme;
 use crate::findings::Findings;
 use moments::moment::is_moment;
+use std::alloc::{AllocError, Global};
 
 impl Extreme {
     // The other if it is better, else the one that was there.
@@ -22,15 +26,12 @@ impl Extreme {
 }
 
 impl Findings {
-    // One cut more.
+    // One cut more, which is a moment.
     fn with(self, cut: &Cut) -> Findings
-        requires { SurveyedOf cut.now.run.now cut.now.number self }
-        ensures seen { SurveyedOf cut.now.run.now (cut.now.number + 1) result }
-        ensures must { result.must ≡ self.must }
+        requires seen { SurveyedOf cut.now.run.now cut.now.number self }
+        requires moment { Moment (run_of cut.now.run.now) (counts_of cut.now.counts) }
+        ensures { SurveyedOf cut.now.run.now (cut.now.number + 1) result }
     {
-        if !is_moment(cut.run, cut.counts) {
-            return self;
-        }
         let here = Extreme {
             sum: cut.sum(),
             at: cut.counts,
@@ -46,11 +47,11 @@ impl Findings {
 }
 
 impl Cuts<'_> {
-    // All of them, where it is known whether every way has a moment of all yes.
-    pub(crate) fn survey(&self, must: bool) -> Findings
-        ensures seen { SurveyedOf self.now.run.now self.now.count result }
-        ensures must { result.must ≡ must }
+    // Looks at each of them once, and asks each but once whether it is a moment, since that is the dearest test.
+    pub(crate) fn survey(&self, heap: Global) -> Result<Findings, AllocError>
+        ensures { IfOk result (λ found. SurveyedOf self.now.run.now self.now.count found × (IsTrue found.must ↔ Must (run_of self.now.run.now) (signs_of self.now.run.now))) }
     {
+        let mut marks = vec![in heap; false; self.count]?;
         let first = self.first();
         let begin = Extreme {
             sum: first.sum(),
@@ -59,13 +60,21 @@ impl Cuts<'_> {
         let mut seen = Findings {
             moments: 0,
             first: None,
-            must,
+            // until the last mark tells
+            must: true,
             least: begin,
             most: begin,
         };
         for cut in self.iter() {
-            seen = seen.with(&cut);
+            if is_moment(cut.run, cut.counts) {
+                marks[cut.number] = cut.comes(&marks);
+                seen = seen.with(&cut);
+            }
         }
-        seen
+        let avoided = marks[self.count - 1];
+        Ok(Findings {
+            must: !avoided,
+            ..seen
+        })
     }
 }

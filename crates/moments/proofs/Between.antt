@@ -3,12 +3,10 @@ use Rattle.std.proofs.Common.{◌≡◌, ℕ, ◌+◌, ◌-◌, ◌<◌, ◌≤�
 use denote.Param.Members.{Mut, Called}
 use Rattle.std.specs.Bool.{MatchBool}
 use Rattle.std.specs.Option.{option_map}
-use Rattle.std.specs.Range.{range_inclusive_start, range_inclusive_end, range_inclusive_exhausted}
 use Rattle.std.specs.declared.ops.Range.{Range}
-use Rattle.std.specs.declared.ops.RangeInclusive.{RangeInclusive}
 use Rattle.std.specs.Iterator.Runs.{Run, SomeRun, ItemsCountUp, AllItemsGive, AnyItemGives}
 use Rattle.std.proofs.iter.Yields.{nat_range_steps}
-use Rattle.std.proofs.iter.runs.Sources.{range_runs, nat_range_inclusive_steps, inclusive_listed}
+use Rattle.std.proofs.iter.runs.Sources.{range_runs}
 use Rattle.std.proofs.lemmas.Bool.{both_ways}
 
 -- what is so of an item that came is so of the number at its place
@@ -35,22 +33,10 @@ module _ {S F : Type 0} {steps : S → Option ℕ → S → Type 0} (p : Run ste
         let x = both (p.at no.0) (λ y. Called g f (y, tt) false f) _ no.2 (counts.2 no.0) in
         (λ e. absurd (both_ways false refl e), λ all. ((told x.0 false f x.1).1 (omega (arith, x.2.0)) x.2.1).1 (all x.0 (omega (arith, x.2.0)) x.2.1))
 
--- from a up to what is less than b, and up to b itself
+-- from a up to what is less than b
 pub all_below : {F : Type 0} {g : Mut F (ℕ × Unit {0}) Bool} {s : Range ℕ} {f : F} (r : Bool) (P : ℕ → Type 0)
     → SomeRun nat_range_steps s (λ p. MatchBool r (IsTrue p.whole × AllItemsGive p g f true) (AnyItemGives p g f false))
     → ((x : ℕ) (t : Bool) (q : F) → Called g f (x, tt) t q → (q ≡ f) × (s.start ≤ x → x < s.end → Decides t (P x)))
     → Decides r ((x : ℕ) → s.start ≤ x → x < s.end → P x)
 all_below {s} {f} r P run told =
     all_between run.0 s.start s.end (subst (λ (z : Range ℕ). ItemsCountUp run.0 z.start z.end) run.1 (range_runs run.0 run.0.seen)) f P told r run.2
-
-pub all_upto : {F : Type 0} {g : Mut F (ℕ × Unit {0}) Bool} {s : RangeInclusive ℕ} {f : F} (a b : ℕ) → range_inclusive_start s ≡ a → range_inclusive_end s ≡ b → range_inclusive_exhausted s ≡ false → (r : Bool) (P : ℕ → Type 0)
-    → SomeRun nat_range_inclusive_steps s (λ p. MatchBool r (IsTrue p.whole × AllItemsGive p g f true) (AnyItemGives p g f false))
-    → ((x : ℕ) (t : Bool) (q : F) → Called g f (x, tt) t q → (q ≡ f) × (a ≤ x → x < b + 1 → Decides t (P x)))
-    → Decides r ((x : ℕ) → a ≤ x → x < b + 1 → P x)
-all_upto {s} {f} a b start end fresh r P run told =
-    let p = run.0 in
-    let h = inclusive_listed p p.seen in
-    let first : h.0 ≡ a = h.2 ∙ ap range_inclusive_start run.1 ∙ start in
-    let last : h.1 ≡ b + 1 = h.3 ∙ ap (λ (z : RangeInclusive ℕ). range_inclusive_end z + 1) run.1 ∙ ap (λ (n : ℕ). n + 1) end in
-    let counts = (h.4 (ap range_inclusive_exhausted run.1 ∙ fresh)).0 in
-    all_between p a (b + 1) (subst (λ n. ItemsCountUp p a n) last (subst (λ n. ItemsCountUp p n h.1) first counts)) f P told r run.2

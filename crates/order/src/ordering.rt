@@ -25,6 +25,9 @@ pub(crate) fn order_run(heap: Global, run: Run) -> Result<Ordered, Failure<Refus
     let progress = fill(&run, &mut rows, &mut turns)?;
     match run.lowest_left(progress.cut) {
         Some(_) => {
+            // Let go of first, so that they don't lie beside what the search for the ring needs.
+            drop(rows);
+            drop(turns);
             let ring = lowest_ring(heap, &run)?;
             Err(Failure::Refused(Refusal::Ring(ring.unwrap())))
         }

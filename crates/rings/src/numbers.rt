@@ -71,7 +71,8 @@ impl Numbers<'_> {
     pub(crate) fn links(&self, heap: Global) -> Result<Links, AllocError>
         ensures { IfOk result (λ x. x.of.items ≡ map (link_of self.now.run.now self.now.begins) self.now.places.items) }
     {
-        let mut of = Vec::new(heap);
+        // As many as there are, since links are large for what they say, and a list that grows may take room for twice as many.
+        let mut of = Vec::with_capacity(heap, self.places.len())?;
         for place in &self.places {
             of.push(self.link(*place))?;
         }

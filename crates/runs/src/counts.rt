@@ -16,10 +16,10 @@ impl Counts {
         Counts { of: [0; 40] }
     }
 
-    // So many behind a machine's count.
-    pub fn index(self, machine: usize, behind: u16) -> usize
+    // So many behind a machine's count. Lent, since forty counts handed over at each read of a run's states cost more than the read.
+    pub fn index(&self, machine: usize, behind: u16) -> usize
         requires { machine < 40 }
-        ensures { result ≡ slice_index self.of machine + behind }
+        ensures { result ≡ slice_index self.now.of machine + behind }
     {
         usize::from(self.of[machine]) + usize::from(behind)
     }
