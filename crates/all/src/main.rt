@@ -1,7 +1,7 @@
 // `all RECORD..`: goes through all cuts of a small run and answers each question by looking at each.
 #![tactic(auto)]
 
-use cli::refusals::tell_refusal;
+use cli::refusals::report_refusal;
 use cli::stop::{FileError, Stop, help, status};
 use cli::{beginnings, texts, words};
 use exhaustive::extreme::Extreme;
@@ -62,7 +62,7 @@ fn all<'a>(rt: &HostRuntime, names: &[&'a str]) -> Result<ExitCode, Stop<FileErr
             return Ok(ExitCode::SUCCESS);
         }
         Ok(None) => tell_too_many(rt)?,
-        Err(failure) => tell_refusal(rt, &failure.refused()?, names)?,
+        Err(failure) => report_refusal(rt, &failure.refused()?, names)?,
     }
     Ok(ExitCode::FAILURE)
 }

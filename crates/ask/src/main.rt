@@ -1,7 +1,7 @@
 // `ask QUESTION ANSWER RECORD..`: what can be known from machines' records.
 #![tactic(auto)]
 
-use cli::refusals::tell_refusal;
+use cli::refusals::report_refusal;
 use cli::stop::{FileError, Stop, help, status};
 use cli::{beginnings, texts, words, write_whole};
 use letters::matched::Matched;
@@ -39,7 +39,7 @@ fn ask<'a>(
             let refusal = failure.refused()?;
             let written = write_whole(rt, answer, &refusal.bytes(rt.alloc())?);
             written.map_err(|error| FileError::Unwritten(answer, error))?;
-            tell_refusal(rt, &refusal, names)?;
+            report_refusal(rt, &refusal, names)?;
         }
     }
     Ok(ExitCode::FAILURE)

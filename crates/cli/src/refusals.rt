@@ -1,7 +1,7 @@
 // Refusals in words.
 use records::place::Place;
 use records::refusal::Refusal;
-use std::fmt;
+use std::{fmt, io};
 
 // What a refusal means. The files of the records are named.
 #[derive(Clone, Copy)]
@@ -66,15 +66,47 @@ impl fmt::Display for Why<'_> {
     }
 }
 
-// A refusal: a line that programs can read, then what it means. Any error, and no `io::Error`: that one would tell want of memory in
-// words of its own.
-pub fn tell_refusal(rt: &HostRuntime, refusal: &Refusal, names: &[&str]) -> anyhow::Result<()> {
-    let number = refusal.number();
-    print!(rt; "refused {number} at")?;
-    for Place { machine, doing } in &refusal.places(rt.alloc())? {
-        print!(rt; " {machine} {doing}")?;
-    }
-    let why = Why { refusal, names };
-    print!(rt; "\n{why}")?;
+// A refusal: a line that programs can read, then what it means. Each `?` makes the error that the function around it hands on; a
+// function that is generic in the error would move each result once more.
+macro_rules! tell {
+    ($rt:ident, $refusal:ident, $names:ident) => {{
+        let number = $refusal.number();
+        print!($rt; "refused {number} at")?;
+        for Place { machine, doing } in &$refusal.places($rt.alloc())? {
+            print!($rt; " {machine} {doing}")?;
+        }
+        let why = Why { refusal: $refusal, names: $names };
+        print!($rt; "\n{why}")?;
+    }};
+}
+
+// Tells a refusal to a caller that asks of an error what kind it is: want of memory has a kind among those of `io::Error`.
+pub fn tell_refusal(rt: &HostRuntime, refusal: &Refusal, names: &[&str]) -> io::Result<()> {
+    tell!(rt, refusal, names);
     Ok(())
+}
+
+// Tells a refusal to a program that any error stops. Want of memory is then told in its own words; an `io::Error` has others for it.
+pub fn report_refusal(rt: &HostRuntime, refusal: &Refusal, names: &[&str]) -> anyhow::Result<()> {
+    tell!(rt, refusal, names);
+    Ok(())
+}
+
+#[cfg(test)]
+mod tests {
+    use super::*;
+    use std::test::Fail;
+
+    #[test]
+    fn a_refusal_is_told(rt: HostRuntime) -> Result<(), Fail> {
+        let refusal = Refusal::Unsent(Place {
+            machine: 1,
+            doing: 1,
+        });
+        let told: io::Result<()> = tell_refusal(&rt, &refusal, &[]);
+        told?;
+        let reported: anyhow::Result<()> = report_refusal(&rt, &refusal, &[]);
+        reported?;
+        Ok(())
+    }
 }
