@@ -69,24 +69,38 @@ unmarked run n = record {
   clear = λ k _. elim (cases_lt k n) [ inl lt ↦ get_or-replicate n k false false lt | inr ge ↦ get_or_past (replicate n false) k false (omega (arith, ge, length-replicate n false)) ];
 }
 
--- the marks at the next turn
-pub mark_turn : (run : code.Run) (count : ℕ) (marks marks' : List Bool) (now : Option held.Cut) (cut : held.Cut) (next : Option held.Cut) (b : Bool) → count ≡ cuts_of (run_of run)
-    → get_or marks' cut.number false ≡ b → ((k : ℕ) → k ≢ cut.number → get_or marks' k false ≡ get_or marks k false) → now ≡ Some cut → Follows cut next
-    → Decides b (ComesTo (run_of cut.run.now) (signs_of cut.run.now) (counts_of cut.counts)) → AtTurn run count (Sofar run marks) now → AtTurn run count (Sofar run marks') next
-mark_turn run count marks marks' now cut next b all here others is follows told sofar =
+-- one mark more, at the cut that the program is at
+marked_more : (run : code.Run) (marks marks' : List Bool) (cut : held.Cut) (b : Bool) → cut.run.now ≡ run → get_or marks' cut.number false ≡ b → ((k : ℕ) → k ≢ cut.number → get_or marks' k false ≡ get_or marks k false)
+    → Decides b (ComesTo (run_of cut.run.now) (signs_of cut.run.now) (counts_of cut.counts)) → Marked (run_of run) (signs_of run) marks cut.number → Marked (run_of run) (signs_of run) marks' (cut.number + 1)
+marked_more run marks marks' cut b at here others told marked =
     let r = run_of run in
     let s = signs_of run in
     let c = counts_of cut.counts in
-    let old : (cut.run.now ≡ run) × Sofar run marks cut.number = MatchOption-at_some _ _ cut is sofar in
-    let of = cut_of run cut old.0 in
+    let of = cut_of run cut at in
     let P : ℕ → Type 0 = Marked r s marks in
     let H : ℕ → Type 0 = λ n. get_or marks' n false ≡ b in
     let O : ℕ → Type 0 = λ n. (k : ℕ) → k ≢ n → get_or marks' k false ≡ get_or marks k false in
     let Q : ℕ → Type 0 = λ n. Marked r s marks' (n + 1) in
     let R : code.Run → Type 0 = λ x. Decides b (ComesTo (run_of x) (signs_of x) c) in
-    let more = mark_more r (linked run).range s marks c of.inside (subst P of.numbered old.1.marked) b marks' (subst H of.numbered here) (subst O of.numbered others) (subst R old.0 told) in
+    subst Q (sym of.numbered) (mark_more r (linked run).range s marks c of.inside (subst P of.numbered marked) b marks' (subst H of.numbered here) (subst O of.numbered others) (subst R at told))
+
+-- where a mark is set, those before the next turn are right if those before this one are, whatever the later ones are
+pub mark_turn : (run : code.Run) (count : ℕ) (marks : List Bool) (now : Option held.Cut) (cut : held.Cut) (next : Option held.Cut) (b : Bool) → count ≡ cuts_of (run_of run) → length marks ≡ count → now ≡ Some cut → Follows cut next
+    → Decides b (ComesTo (run_of cut.run.now) (signs_of cut.run.now) (counts_of cut.counts)) → AtTurn run count (Marked (run_of run) (signs_of run) marks) now → AtTurn run count (Marked (run_of run) (signs_of run) (set marks cut.number b)) next
+mark_turn run count marks now cut next b all long is follows told marked =
+    let old : (cut.run.now ≡ run) × Marked (run_of run) (signs_of run) marks cut.number = MatchOption-at_some _ _ cut is marked in
+    let of = cut_of run cut old.0 in
+    let here = get_or-set_same marks cut.number b false (omega (arith, of.within, long, all)) in
+    at_next run count (Marked (run_of run) (signs_of run) (set marks cut.number b)) cut next all old.0 follows (marked_more run marks (set marks cut.number b) cut b old.0 here (λ k ne. get_or-set_other marks cut.number k b false ne) told old.1)
+
+-- the marks at the next turn
+pub sofar_turn : (run : code.Run) (count : ℕ) (marks marks' : List Bool) (now : Option held.Cut) (cut : held.Cut) (next : Option held.Cut) (b : Bool) → count ≡ cuts_of (run_of run)
+    → get_or marks' cut.number false ≡ b → ((k : ℕ) → k ≢ cut.number → get_or marks' k false ≡ get_or marks k false) → now ≡ Some cut → Follows cut next
+    → Decides b (ComesTo (run_of cut.run.now) (signs_of cut.run.now) (counts_of cut.counts)) → AtTurn run count (Sofar run marks) now → AtTurn run count (Sofar run marks') next
+sofar_turn run count marks marks' now cut next b all here others is follows told sofar =
+    let old : (cut.run.now ≡ run) × Sofar run marks cut.number = MatchOption-at_some _ _ cut is sofar in
     let sofar' : Sofar run marks' (cut.number + 1) = record {
-      marked = subst Q (sym of.numbered) more;
+      marked = marked_more run marks marks' cut b old.0 here others told old.1.marked;
       clear = λ k le. others k (λ e. omega (arith, e)) ∙ old.1.clear k (omega arith);
     } in
     at_next run count (Sofar run marks') cut next all old.0 follows sofar'
@@ -97,14 +111,14 @@ pub mark_set : (run : code.Run) (count : ℕ) (marks : List Bool) (now : Option 
 mark_set run count marks now cut next b all long is follows told sofar =
     let old : (cut.run.now ≡ run) × Sofar run marks cut.number = MatchOption-at_some _ _ cut is sofar in
     let of = cut_of run cut old.0 in
-    mark_turn run count marks (set marks cut.number b) now cut next b all (get_or-set_same marks cut.number b false (omega (arith, of.within, long, all))) (λ k ne. get_or-set_other marks cut.number k b false ne) is follows told sofar
+    sofar_turn run count marks (set marks cut.number b) now cut next b all (get_or-set_same marks cut.number b false (omega (arith, of.within, long, all))) (λ k ne. get_or-set_other marks cut.number k b false ne) is follows told sofar
 
 -- at a cut that is no moment none is set
 pub mark_none : (run : code.Run) (count : ℕ) (marks : List Bool) (now : Option held.Cut) (cut : held.Cut) (next : Option held.Cut) → count ≡ cuts_of (run_of run) → now ≡ Some cut → Follows cut next
     → (Moment (run_of cut.run.now) (counts_of cut.counts) → ⊥) → AtTurn run count (Sofar run marks) now → AtTurn run count (Sofar run marks) next
 mark_none run count marks now cut next all is follows never sofar =
     let old : (cut.run.now ≡ run) × Sofar run marks cut.number = MatchOption-at_some _ _ cut is sofar in
-    mark_turn run count marks marks now cut next false all (old.1.clear cut.number (omega arith)) (λ k ne. refl) is follows (λ e. absurd (both_ways false refl e), λ comes. absurd (never (comes_moment (run_of cut.run.now) (linked cut.run.now).range (signs_of cut.run.now) comes))) sofar
+    sofar_turn run count marks marks now cut next false all (old.1.clear cut.number (omega arith)) (λ k ne. refl) is follows (λ e. absurd (both_ways false refl e), λ comes. absurd (never (comes_moment (run_of cut.run.now) (linked cut.run.now).range (signs_of cut.run.now) comes))) sofar
 
 -- what the program looks at decides whether the run can have come to a cut
 module _ (cut : held.Cut) (marks : List Bool) (marked : Marked (run_of cut.run.now) (signs_of cut.run.now) marks cut.number) where
